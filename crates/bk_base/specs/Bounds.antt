@@ -1,0 +1,11 @@
+-- How long a key and a value may be.
+use Rattle.std.specs.Prelude.{ℕ, List, ◌≤◌, length}
+
+-- A key has 1 to 65,535 bytes.
+pub record IsKey (bytes : List ℕ) : Type 0 where
+  pub some : 1 ≤ length bytes
+  pub short : length bytes ≤ 65535
+
+-- A value has at most 16,777,216 bytes.
+abbrev pub IsValue : List ℕ → Type 0
+IsValue bytes = length bytes ≤ 16777216

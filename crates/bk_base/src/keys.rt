@@ -1,0 +1,62 @@
+//! Keys.
+ghost use Rattle.std.specs.Prelude.{◌≡◌, ◌↔◌, length, IsOk, IfOk, IfErr};
+ghost use Rattle.bk_base.specs.Bounds.{IsKey};
+
+use crate::refusals::Memory;
+use std::marker::Model;
+
+/// A key: 1 to 65,535 bytes. Contracts see the list of its bytes.
+#[derive(Debug, Drop)]
+pub struct Key {
+    bytes: Vec<u8>,
+}
+
+/// The bytes were too few or too many for a key; `len` is how many there were.
+#[derive(Clone, Copy, Debug, PartialEq, Eq)]
+pub struct KeyLength {
+    pub len: usize,
+}
+
+impl Model for Key {
+    ghost use Rattle.std.specs.Prelude.{List, ℕ};
+    ghost use Rattle.bk_base.specs.Bounds.{IsKey};
+
+    ghost Value = { List ℕ };
+
+    ghost view = { λ key. key.bytes.items };
+
+    ghost invariant = { λ key. IsKey key.bytes.items };
+}
+
+impl Key {
+    /// The key of these bytes, or `KeyLength` exactly where their number isn't 1 to 65,535.
+    pub fn new(bytes: Vec<u8>) -> Result<Key, KeyLength>
+        ensures accepted { IsOk result ↔ IsKey bytes.items }
+        ensures key { IfOk result (λ key. key ≡ bytes.items) }
+        ensures refused { IfErr result (λ refusal. refusal.len ≡ length bytes.items) }
+    {
+        let len = bytes.len();
+        if len == 0 || len > 65_535 {
+            return Err(KeyLength { len });
+        }
+        Ok(Key { bytes })
+    }
+
+    /// The key's bytes.
+    pub fn bytes(&self) -> &[u8]
+        ensures value { result.now ≡ self.now }
+        ensures bounds { IsKey self.now }
+    {
+        self.bytes.as_slice()
+    }
+
+    /// A key of the same bytes; only memory can refuse it.
+    pub fn copy(&self) -> Result<Key, Memory>
+        ensures { IfOk result (λ key. key ≡ self.now) }
+    {
+        match self.bytes.clone() {
+            Ok(bytes) => Ok(Key { bytes }),
+            Err(_) => Err(Memory),
+        }
+    }
+}

@@ -1,0 +1,29 @@
+//! The plain data of the store: keys, values, writes, names of files, calls and their answers,
+//! and what a history records of each step. Every other crate speaks in these types.
+#![tactic(auto)]
+
+mod calls;
+mod histories;
+mod jobs;
+mod keys;
+mod names;
+mod numbers;
+mod refusals;
+mod requests;
+mod rows;
+mod statuses;
+mod values;
+mod writes;
+
+pub use calls::{Answer, Call, Entry};
+pub use histories::{Glance, OpenFold, Opening, Placed, Step, StoreSettings, WrittenFile};
+pub use jobs::{Cause, JobInput, JobPart, JobState, PartState, Phase};
+pub use keys::{Key, KeyLength};
+pub use names::{Kind, Name};
+pub use numbers::{FileId, Moment, Seq};
+pub use refusals::Memory;
+pub use requests::{Reply, Request};
+pub use rows::{Row, RowState};
+pub use statuses::{SessionEnd, Status};
+pub use values::{Value, ValueLength};
+pub use writes::{Body, Version, Write};
