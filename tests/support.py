@@ -1,0 +1,175 @@
+"""What the end-to-end tests share: the built program, ways to run it, and the bytes that it is to leave.
+
+The program is the one that BITCASKD names, or else the one that the last `rt ci` or `rt run` left in the
+crate's out/ folder. Where there is none, `rt run` proves and builds it, once.
+"""
+
+import functools
+import os
+import pathlib
+import select
+import struct
+import subprocess
+import tempfile
+import threading
+import time
+import unittest
+import zlib
+
+CRATE = pathlib.Path(__file__).resolve().parent.parent / "crates" / "bitcaskd"
+DATA_FILE = "1.bitcask.data"
+LOCK_FILE = "bitcask.write.lock"
+LARGEST_KEY = 65_535
+LARGEST_VALUE = 16_777_216
+SECONDS = 60  # that one run of the program may take
+
+
+@functools.lru_cache(maxsize=None)
+def program():
+    """The path of the built program."""
+    named = os.environ.get("BITCASKD")
+    if named:
+        return os.path.abspath(named)
+    built = CRATE / "out" / "bitcaskd"
+    if not built.exists():
+        # It also runs the program, without words, so the status says nothing.
+        subprocess.run(["rt", "run"], cwd=CRATE, stdin=subprocess.DEVNULL, check=False)
+    if not built.exists():
+        raise FileNotFoundError(f"{built}: run `rt ci` first")
+    return str(built)
+
+
+def put(key, value):
+    """The text of the request that puts the value under the key."""
+    return b"PUT %d %d\n" % (len(key), len(value)) + key + value + b"\n"
+
+
+def get(key):
+    """The text of the request for the value of the key."""
+    return b"GET %d\n" % len(key) + key + b"\n"
+
+
+def numbered(seq):
+    """The reply to a put."""
+    return b"OK %d\n" % seq
+
+
+def found(value):
+    """The reply to a get of a key that has a value."""
+    return b"VALUE %d\n" % len(value) + value + b"\n"
+
+
+ABSENT = b"NONE\n"
+
+
+def record(moment, seq, key, value):
+    """A record as it stands in a data file: checksum, moment, sizes, sequence number, key and value."""
+    checked = struct.pack(">IHIQ", moment, len(key), len(value), seq) + key + value
+    return struct.pack(">I", zlib.crc32(checked)) + checked
+
+
+def run(*words, given=b"", **options):
+    """Runs the program on words and input to its end."""
+    options = {"stdout": subprocess.PIPE, "stderr": subprocess.PIPE, "timeout": SECONDS, **options}
+    if "stdin" not in options:
+        options["input"] = given
+    return subprocess.run([program(), *words], check=False, **options)
+
+
+class Client:
+    """A running program, whose input stays open between the requests that are sent."""
+
+    def __init__(self, *words, **options):
+        self.errors = tempfile.TemporaryFile()
+        options = {"stdin": subprocess.PIPE, "stdout": subprocess.PIPE, **options}
+        self.process = subprocess.Popen([program(), *words], bufsize=0, stderr=self.errors, **options)
+        self.limit = threading.Timer(SECONDS, self.process.kill)
+        self.limit.start()
+
+    def __enter__(self):
+        return self
+
+    def __exit__(self, *_):
+        self.limit.cancel()
+        if self.process.poll() is None:
+            self.process.kill()
+        self.process.wait()
+        for stream in (self.process.stdin, self.process.stdout, self.errors):
+            if stream:
+                stream.close()
+
+    def send(self, text):
+        """Writes the bytes, as many as the program still takes."""
+        try:
+            while text:
+                text = text[self.process.stdin.write(text):]
+        except BrokenPipeError:
+            pass
+
+    def receive(self, count):
+        """Reads so many bytes of the replies, or fewer where the output ends or nothing comes for a while."""
+        taken, until = b"", time.monotonic() + SECONDS
+        while len(taken) < count:
+            ready, _, _ = select.select([self.process.stdout], [], [], max(0, until - time.monotonic()))
+            piece = os.read(self.process.stdout.fileno(), count - len(taken)) if ready else b""
+            if not piece:
+                break
+            taken += piece
+        return taken
+
+    def finish(self, given=b""):
+        """Sends the last bytes and ends the input. Gives what a run to the end gives."""
+        self.send(given)
+        if self.process.stdin:
+            self.process.stdin.close()
+        return self.ended()
+
+    def ended(self):
+        """Waits for the program to end by itself. Gives what a run to the end gives."""
+        output = self.process.stdout.read() if self.process.stdout else b""
+        status = self.process.wait(SECONDS)
+        self.errors.seek(0)
+        return subprocess.CompletedProcess(self.process.args, status, output, self.errors.read())
+
+
+class StoreTest(unittest.TestCase):
+    """A test with an empty folder of its own."""
+
+    maxDiff = 2000
+
+    def setUp(self):
+        folder = tempfile.TemporaryDirectory()
+        self.addCleanup(folder.cleanup)
+        self.folder = pathlib.Path(folder.name)
+
+    def pipe(self, given, **options):
+        """Runs `pipe` over the test's folder to the end of the given input."""
+        return run("pipe", str(self.folder), given=given, **options)
+
+    def client(self, **options):
+        """Starts `pipe` over the test's folder."""
+        client = Client("pipe", str(self.folder), **options)
+        self.addCleanup(client.__exit__)
+        return client
+
+    def files(self):
+        """The files of the folder but the lock, with their bytes."""
+        return {path.name: path.read_bytes() for path in self.folder.iterdir() if path.name != LOCK_FILE}
+
+    def assert_ended(self, ended, status, output=b"", word=None):
+        """The run ended with this status and output, and named its cause by the word on standard error."""
+        errors = b"bitcaskd: %s\n" % word.encode() if word else b""
+        self.assertEqual((ended.returncode, ended.stderr), (status, errors))
+        self.assertEqual(len(ended.stdout or b""), len(output))
+        self.assertTrue((ended.stdout or b"") == output, "the output has other bytes")
+
+    def assert_holds(self, writes, since=0):
+        """The data file is exactly the records of these puts, each with a moment from `since` to now."""
+        text = (self.folder / DATA_FILE).read_bytes()
+        now, packed = int(time.time()), b""
+        for seq, (key, value) in enumerate(writes, 1):
+            (moment,) = struct.unpack_from(">I", text.ljust(len(packed) + 8, b"\0"), len(packed) + 4)
+            self.assertTrue(since <= moment <= now, f"moment {moment} of record {seq}")
+            packed += record(moment, seq, key, value)
+        self.assertEqual(len(text), len(packed))
+        self.assertTrue(text == packed, "the data file has other bytes")

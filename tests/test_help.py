@@ -1,0 +1,48 @@
+"""What the program says of itself."""
+
+import os
+import unittest
+
+from support import StoreTest, run
+
+
+class Help(StoreTest):
+    def test_help(self):
+        ended = run("--help")
+        self.assert_ended(ended, 0, ended.stdout)
+        text = ended.stdout.decode()
+        for part in ("bitcaskd pipe DIR", "PUT", "GET", "--help", "--version"):
+            self.assertIn(part, text)
+        statuses = {tuple(line.split()[:2]) for line in text.splitlines() if line[:1] == " "}
+        for status in [("1", "memory"), ("3", "disk"), ("4", "source"), ("5", "sink"), ("10", "long"), ("11", "notbuilt")]:
+            self.assertIn(status, statuses)
+
+    def test_version(self):
+        ended = run("--version")
+        self.assert_ended(ended, 0, ended.stdout)
+        self.assertRegex(ended.stdout, rb"\Abitcaskd [0-9]+\.[0-9]+\.[0-9]+\n\Z")
+
+    def test_neither_reads_its_input(self):
+        with open(self.folder / "input", "w+b") as given:
+            given.write(b"unread")
+            given.seek(0)
+            for word in ("--help", "--version"):
+                self.assertEqual(run(word, stdin=given).returncode, 0)
+            self.assertEqual(given.tell(), 0)
+
+    def test_an_output_that_fails(self):
+        for word in ("--help", "--version"):
+            with self.subTest(word=word, output="full"), open("/dev/full", "wb") as full:
+                self.assert_ended(run(word, stdout=full), 5, b"", "sink")
+            with self.subTest(word=word, output="that nobody reads"):
+                reading, writing = os.pipe()
+                os.close(reading)
+                ended = run(word, stdout=writing)
+                os.close(writing)
+                self.assert_ended(ended, 5, b"", "sink")
+            with self.subTest(word=word, output="closed"):
+                self.assert_ended(run(word, stdout=None, preexec_fn=lambda: os.close(1)), 5, b"", "sink")
+
+
+if __name__ == "__main__":
+    unittest.main()

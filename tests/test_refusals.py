@@ -1,0 +1,172 @@
+"""Each refusal has its status and its word on standard error, and leaves what was there."""
+
+import os
+import resource
+import signal
+import unittest
+
+from support import (
+    DATA_FILE, LARGEST_VALUE, LOCK_FILE, SECONDS, Client, StoreTest, found, get, numbered, put, record, run,
+)
+
+# What begins no request, as soon as its last byte is there.
+NO_REQUEST = [
+    b"D", b"DEL 1\na\n", b"get 1\na\n", b"\n", b" GET 1\na\n", b"GE\n", b"GETS", b"GET\n", b"GET  1", b"GET \n",
+    b"GET 0", b"GET 01", b"GET -1", b"GET +1", b"GET a", b"GET 1 ", b"GET 65536", b"GET 655350", b"GET 1\r\n",
+    b"GET 1\nab", b"PUX", b"PUT\n", b"PUT 1\n", b"PUT 0", b"PUT 65536", b"PUT 1 \n", b"PUT 1  1", b"PUT 1 01",
+    b"PUT 1 00", b"PUT 1 1 ", b"PUT 1 16777217", b"PUT 1 167772160", b"PUT 1 1\nabc", b"PUT 1 0\nab", b"FOLD\n",
+    b"KEYS\n", b"SYNC\n", b"STAT\n", b"MERGE\n", b"QUIT\n", b"\x00", b"\xff",
+]
+
+
+class Words(StoreTest):
+    def test_words_that_are_not_pipe_and_a_folder(self):
+        here = str(self.folder)
+        for words in (
+            [], ["frob", here], ["pipe"], ["pipe", here, here], ["pipe", ""], [""], ["Pipe", here], ["pipe ", here],
+            [here], [here, "pipe"], ["fill", here, "10"], ["list", here], ["merge", here], ["check", here], ["drill"],
+            ["--help", here], ["--version", "--help"], ["-h"], ["help"], ["pipe", "--help", here],
+        ):
+            with self.subTest(words=words):
+                self.assert_ended(run(*words, given=put(b"a", b"1")), 11, b"", "notbuilt")
+        self.assertEqual(list(self.folder.iterdir()), [])
+
+    def test_words_that_are_not_utf_8(self):
+        for words in ([b"pipe", os.fsencode(self.folder) + b"/\xff"], [b"\xc3", os.fsencode(self.folder)], [b"--help", b"\x80"]):
+            with self.subTest(words=words):
+                self.assert_ended(run(*words), 11, b"", "notbuilt")
+        self.assertEqual(list(self.folder.iterdir()), [])
+
+
+class Folders(StoreTest):
+    def test_a_folder_that_has_a_file_of_the_store(self):
+        names = [f"{number}.bitcask.{ending}" for number in (1, 7, 4294967294)
+                 for ending in ("data", "temp", "hint", "htmp", "swap", "stmp")]
+        for name in [*names, "bitcask.toml"]:
+            with self.subTest(name=name):
+                folder = self.folder / name
+                folder.mkdir()
+                (folder / name).write_bytes(b"kept")
+                ended = run("pipe", str(folder), given=put(b"a", b"1") + get(b"a"))
+                self.assert_ended(ended, 11, b"", "notbuilt")
+                self.assertEqual((folder / name).read_bytes(), b"kept")
+                self.assertEqual({path.name for path in folder.iterdir()} - {LOCK_FILE}, {name})
+
+    def test_a_folder_that_has_other_files(self):
+        names = [
+            "0.bitcask.data", "01.bitcask.data", "4294967295.bitcask.data", "99999999999999999999.bitcask.data",
+            "1.bitcask.data.old", "x1.bitcask.data", "+1.bitcask.data", "-1.bitcask.data", " 1.bitcask.data",
+            "1.bitcask.Data", "1.BITCASK.data", "1.bitcask.lock", "1.bitcask.", "1.bitcask", "1", ".bitcask.data",
+            "bitcask.tom", "bitcask.toml~", "Bitcask.toml", "readme.txt", "١.bitcask.data", ".hidden",
+        ]
+        others = {os.fsencode(name): b"kept " + os.fsencode(name) for name in names}
+        others[b"\xff.bitcask.data"] = b"a name that is not UTF-8"
+        for name, text in others.items():
+            with open(os.path.join(os.fsencode(self.folder), name), "wb") as it:
+                it.write(text)
+        (self.folder / "a folder").mkdir()
+        self.assert_ended(self.pipe(put(b"a", b"1") + get(b"a")), 0, numbered(1) + found(b"1"))
+        self.assert_holds([(b"a", b"1")])
+        for name, text in others.items():
+            with open(os.path.join(os.fsencode(self.folder), name), "rb") as it:
+                self.assertEqual(it.read(), text)
+
+    def test_a_second_run_over_what_the_first_left(self):
+        self.assert_ended(self.pipe(put(b"a", b"1")), 0, numbered(1))
+        before = self.files()
+        self.assert_ended(self.pipe(get(b"a")), 11, b"", "notbuilt")
+        self.assertEqual(self.files(), before)
+
+    def test_a_folder_that_is_not_there(self):
+        for word in ("absent", "absent/below", "a\nb"):
+            with self.subTest(word=word):
+                ended = run("pipe", str(self.folder / word), given=put(b"a", b"1"))
+                self.assert_ended(ended, 3, b"", "directory")
+        self.assertEqual(list(self.folder.iterdir()), [])
+
+    def test_a_file_in_the_place_of_the_folder(self):
+        file = self.folder / "file"
+        file.write_bytes(b"kept")
+        self.assert_ended(run("pipe", str(file), given=put(b"a", b"1")), 3, b"", "directory")
+        self.assertEqual(self.files(), {"file": b"kept"})
+
+    def test_a_second_process(self):
+        first = self.client()
+        first.send(put(b"a", b"1"))
+        self.assertEqual(first.receive(5), numbered(1))
+        for given in (put(b"a", b"2"), b""):
+            self.assert_ended(self.pipe(given), 3, b"", "lock")
+        first.send(get(b"a"))
+        self.assertEqual(first.receive(10), found(b"1"))
+        self.assert_ended(first.finish(put(b"a", b"3")), 0, numbered(2))
+        self.assert_holds([(b"a", b"1"), (b"a", b"3")])
+
+    def test_the_lock_ends_with_its_process(self):
+        first = self.client()
+        first.send(get(b"a"))
+        self.assertEqual(first.receive(5), b"NONE\n")
+        first.process.kill()
+        first.process.wait(SECONDS)
+        self.assert_ended(self.pipe(get(b"a")), 0, b"NONE\n")
+        self.assert_ended(self.pipe(put(b"a", b"1")), 0, numbered(1))
+
+
+class Requests(StoreTest):
+    def refused(self, number, given, replies):
+        folder = self.folder / str(number)
+        folder.mkdir()
+        # The input stays open: the run ends as soon as no request can begin so.
+        with Client("pipe", str(folder)) as client:
+            client.send(given)
+            self.assert_ended(client.ended(), 11, replies, "notbuilt")
+        return {path.name: path.stat().st_size for path in folder.iterdir() if path.name != LOCK_FILE}
+
+    def test_what_is_no_request(self):
+        for number, given in enumerate(NO_REQUEST):
+            with self.subTest(given=given):
+                self.assertEqual(self.refused(number, given, b""), {})
+
+    def test_what_is_no_request_after_others(self):
+        before, replies = put(b"a", b"1") + get(b"a"), numbered(1) + found(b"1")
+        for number, given in enumerate(NO_REQUEST):
+            with self.subTest(given=given):
+                self.assertEqual(self.refused(number, before + given, replies), {DATA_FILE: 24})
+
+
+def limited(kind, most):
+    """Limits what the program may take, without the signal that would end it."""
+    def limit():
+        signal.signal(signal.SIGXFSZ, signal.SIG_IGN)
+        resource.setrlimit(kind, (most, most))
+    return limit
+
+
+class Faults(StoreTest):
+    def test_an_append_that_fails(self):
+        # The second record has room for its first 6 bytes alone.
+        client = self.client(preexec_fn=limited(resource.RLIMIT_FSIZE, 30))
+        client.send(put(b"a", b"1"))
+        self.assertEqual(client.receive(5), numbered(1))
+        self.assert_ended(client.finish(put(b"b", b"2") + get(b"a")), 3, b"", "disk")
+        # What was put stays, and any first part of the record that failed may stand behind it.
+        text = self.files()[DATA_FILE]
+        self.assertEqual(text[:24], record(int.from_bytes(text[4:8], "big"), 1, b"a", b"1"))
+        self.assertLessEqual(len(text), 30)
+
+    def test_a_data_file_that_was_cut_from_outside(self):
+        client = self.client()
+        client.send(put(b"a", b"1"))
+        self.assertEqual(client.receive(5), numbered(1))
+        os.truncate(self.folder / DATA_FILE, 23)
+        self.assert_ended(client.finish(get(b"a")), 3, b"", "disk")
+
+    def test_want_of_memory(self):
+        client = self.client(preexec_fn=limited(resource.RLIMIT_AS, LARGEST_VALUE))
+        client.send(put(b"a", b"1"))
+        self.assertEqual(client.receive(5), numbered(1))
+        self.assert_ended(client.finish(put(b"b", bytes(LARGEST_VALUE)) + get(b"a")), 1, b"", "memory")
+        self.assert_holds([(b"a", b"1")])
+
+
+if __name__ == "__main__":
+    unittest.main()
