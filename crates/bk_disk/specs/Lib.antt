@@ -1,0 +1,6 @@
+pub mod Causes
+pub mod Streams
+pub mod Names
+pub mod Told
+pub mod Stops
+pub mod Calls

@@ -1,0 +1,26 @@
+//! Where bytes go.
+ghost use Rattle.std.specs.Prelude.{◌≡◌, ◌<◌, ◌≤◌, ◌++◌, Bool, List, ℕ, length, take, IsTrue, IfOk, OnErr};
+ghost use Rattle.bk_disk.specs.Causes.{IsCaused};
+
+use crate::failures::Failed;
+
+/// An output that is written in pieces.
+pub trait Sink {
+    /// Whether the output is told.
+    ghost tells: { Bool };
+
+    /// All bytes taken so far.
+    ghost written: { Self → List ℕ };
+
+    /// How often a write has failed.
+    ghost faults: { Self → ℕ };
+
+    /// Takes bytes from the front of the piece, and says how many: at least one of a piece that
+    /// isn't empty.
+    fn write(&mut self, piece: &[u8]) -> Result<usize, Failed>
+        ensures within { IfOk result (λ n. n ≤ length piece.now) }
+        ensures some { IfOk result (λ n. 0 < length piece.now → 0 < n) }
+        ensures wrote { IsTrue tells → IfOk result (λ n. written self.new ≡ written self.old ++ take n piece.now) }
+        ensures kept { IsTrue tells → OnErr result (written self.new ≡ written self.old) }
+        ensures cause { IsCaused (faults self.old) (faults self.new) result };
+}
