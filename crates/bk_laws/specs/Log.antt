@@ -37,7 +37,7 @@ or_else None other = other
 -- the last write of the key
 abbrev pub winner : List Write → List ℕ → Option Write
 winner [] key = None
-winner (w ∷ ws) key = or_else (winner ws key) (cond (bytes_eq key w.key) (Some w) None)
+winner (w ∷ ws) key = or_else (winner ws key) (cond (bytes_eq w.key key) (Some w) None)
 
 -- a write that puts, or none
 abbrev pub put_in : Write → Body → Option Write
