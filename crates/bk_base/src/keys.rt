@@ -1,8 +1,12 @@
 //! Keys.
-ghost use Rattle.std.specs.Prelude.{◌≡◌, ◌↔◌, length, IsOk, IfOk, IfErr};
+ghost use Rattle.std.specs.Prelude.{◌≡◌, ◌↔◌, [], ◌∷◌, length, IsOk, IfOk, IfErr, IsTrue};
+ghost use Rattle.std.specs.Cmp.Rules.{comparing, hashing};
+ghost use Rattle.std.specs.Str.{bytes_eq};
+ghost use Rattle.std.proofs.Common.{rules};
 ghost use Rattle.bk_base.specs.Bounds.{IsKey};
 
 use crate::refusals::Memory;
+use std::hash::{Hash, Hasher};
 use std::marker::Model;
 
 /// A key: 1 to 65,535 bytes. Contracts see the list of its bytes.
@@ -58,5 +62,33 @@ impl Key {
             Ok(bytes) => Ok(Key { bytes }),
             Err(_) => Err(Memory),
         }
+    }
+}
+
+impl PartialEq for Key {
+    ghost eq = { bytes_eq };
+
+    ghost laws = { Prim.search (comparing, rules) };
+
+    fn eq(&self, other: &Key) -> bool
+        ensures value { result ≡ bytes_eq self.now other.now }
+        ensures exact { IsTrue result ↔ (self.now ≡ other.now) }
+    {
+        self.bytes.as_slice() == other.bytes.as_slice()
+    }
+}
+
+impl Eq for Key {
+    ghost laws = { Prim.search (comparing, rules) };
+}
+
+impl Hash for Key {
+    ghost hash_input = { λ key. key ∷ [] };
+
+    ghost respects_eq = { Prim.search (hashing, rules) };
+
+    // All bytes in one write: a derive would hand them over one by one.
+    fn hash<H: Hasher>(&self, state: &mut H) {
+        state.write(self.bytes.as_slice());
     }
 }

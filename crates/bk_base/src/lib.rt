@@ -19,7 +19,7 @@ pub use calls::{Answer, Call, Entry};
 pub use histories::{Glance, OpenFold, Opening, Placed, Step, StoreSettings, WrittenFile};
 pub use jobs::{Cause, JobInput, JobPart, JobState, PartState, Phase};
 pub use keys::{Key, KeyLength};
-pub use names::{Kind, Name};
+pub use names::{Kind, Name, one_text};
 pub use numbers::{FileId, Moment, Seq};
 pub use refusals::Memory;
 pub use requests::{Reply, Request};
@@ -27,3 +27,6 @@ pub use rows::{Row, RowState};
 pub use statuses::{SessionEnd, Status};
 pub use values::{Value, ValueLength};
 pub use writes::{Body, Version, Write};
+
+#[cfg(test)]
+mod tests;
