@@ -1,0 +1,4 @@
+pub mod Blocks
+pub mod Bounds
+pub mod Linear
+pub mod Table
