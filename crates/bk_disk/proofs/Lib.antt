@@ -1,2 +1,4 @@
 pub mod Names
 pub mod Tables
+pub mod Files
+pub mod Moments

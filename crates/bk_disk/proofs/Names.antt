@@ -1,13 +1,9 @@
 -- The test on names decides their equality.
-use Rattle.std.proofs.Common.{◌≡◌, ℕ, ◌==◌, cond, true, false, IsTrue, refl, sym, ◌∙◌, ap, arith}
+use Rattle.std.proofs.Common.{◌≡◌, ℕ, ◌==◌, cond, true, refl, sym, ◌∙◌, ap, arith}
 use Rattle.bk_base.specs.declared.names.Name.{Name}
 use Rattle.bk_base.specs.declared.names.Kind.{Kind}
 use Rattle.bk_base.specs.declared.names.Kind.TheVariants.{Main, MainTemp, Hint, HintTemp, Swap, SwapTemp, Settings}
 use Rattle.bk_disk.specs.Names.{same, kind_number}
-
--- what is promised where the content is told holds of an object that tells nothing
-pub untold : {A : Type 0} → IsTrue false → A
-untold h = absurd (cc h)
 
 abbrev kind_of : ℕ → Kind
 kind_of n =

@@ -1,7 +1,9 @@
 -- What a disk tells: its files as they read, and of each file what a stop may leave.
-use Rattle.std.specs.Prelude.{◌≡◌, ℕ, ◌+◌, ◌≤◌, Bool, true, false, not, cond, List, [], ◌∷◌, ◌++◌, length, take, drop, map, sum_by, unwrap_or, is_some, is_none, IsTrue, IsSome, IfSome, IsSomeAnd, nat_le, ◌&&◌}
+use Rattle.std.specs.Prelude.{◌≡◌, ℕ, ◌+◌, ◌≤◌, Bool, true, false, not, cond, List, [], ◌∷◌, ◌++◌, length, take, drop, map, sum_by, unwrap_or, is_some, IsTrue, IsSome, IfSome, IsSomeAnd, nat_le, ◌&&◌}
 use Rattle.std.specs.declared.option.Option.{Option}
 use Rattle.std.specs.declared.option.Option.TheVariants.{None, Some}
+use Rattle.std.proofs.Common.{sym}
+use Rattle.std.proofs.lemmas.Bool.{true≢false}
 use Rattle.bk_base.specs.declared.names.Name.{Name}
 use Rattle.bk_disk.specs.declared.disks.Listed.{Listed}
 use Rattle.bk_disk.specs.Names.{same}
@@ -99,7 +101,7 @@ abbrev pub IsLent : Name → Told → Type 0
 IsLent n t = IsSome (at t.image n) × IsSomeAnd (at t.fronts n) (λ f. f.lent ≡ true)
 
 abbrev pub IsAbsent : Name → Image → Type 0
-IsAbsent n image = IsTrue (is_none (at image n))
+IsAbsent n image = is_some (at image n) ≡ false
 
 -- exactly one of the names is there
 abbrev pub IsOneThere : Name → Name → Image → Type 0
@@ -122,3 +124,7 @@ range_of n from len image = take len (drop from (bytes_of n image))
 -- what stands in the place of the content where it isn't told
 abbrev pub nothing_told : Told
 nothing_told = record { image = []; past = []; fronts = []; asked = []; astray = 0 }
+
+-- what is promised where the content is told holds of an object that tells nothing
+pub untold : {A : Type 0} → IsTrue false → A
+untold h = absurd (true≢false (sym h))

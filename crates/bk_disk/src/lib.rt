@@ -11,6 +11,8 @@ mod failures;
 mod outs;
 mod sinks;
 mod sources;
+#[cfg(test)]
+mod tests;
 mod views;
 
 pub use bk_base::Memory;
