@@ -1,0 +1,51 @@
+use crate::{ListClock, MemSink, MemSource};
+use bk_base::Moment;
+use bk_disk::{Clock, Failed, Sink, Source};
+use std::test::Fail;
+
+// Reads by the bound.
+fn next<S: Source>(source: &mut S, into: &mut [u8]) -> Result<usize, Failed> {
+    source.read(into)
+}
+
+fn put<K: Sink>(sink: &mut K, piece: &[u8]) -> Result<usize, Failed> {
+    sink.write(piece)
+}
+
+fn tick<C: Clock>(clock: &mut C) -> Moment {
+    clock.now()
+}
+
+#[test]
+fn a_source_gives_pieces_and_fails_once(rt: HostRuntime) -> Result<(), Fail> {
+    let mut source = MemSource::new(b"abcde".to_vec(rt.alloc())?, Some(2), 3);
+    let mut into = [0; 8];
+    assert_eq!(rt; next(&mut source, &mut into), Ok(3));
+    assert_eq!(rt; next(&mut source, &mut into), Err(Failed));
+    assert_eq!(rt; next(&mut source, &mut into), Ok(2));
+    assert_eq!(rt; &into[..3], b"dec".as_slice());
+    assert_eq!(rt; next(&mut source, &mut into), Ok(0));
+    Ok(())
+}
+
+#[test]
+fn a_sink_takes_its_room(rt: HostRuntime) -> Result<(), Fail> {
+    let mut sink = MemSink::new(rt.alloc(), 4, Some(2)).map_err(|_| "memory")?;
+    assert_eq!(rt; put(&mut sink, b"abc"), Ok(3));
+    assert_eq!(rt; put(&mut sink, b"de"), Err(Failed));
+    assert_eq!(rt; put(&mut sink, b"de"), Ok(1));
+    assert_eq!(rt; put(&mut sink, b"e"), Err(Failed));
+    assert_eq!(rt; sink.bytes(), b"abcd".as_slice());
+    Ok(())
+}
+
+#[test]
+fn a_clock_keeps_its_last_moment(rt: HostRuntime) -> Result<(), Fail> {
+    let mut clock = ListClock::new([Moment(5), Moment(9)].to_vec(rt.alloc())?);
+    assert_eq!(rt; tick(&mut clock), Moment(5));
+    assert_eq!(rt; tick(&mut clock), Moment(9));
+    assert_eq!(rt; tick(&mut clock), Moment(9));
+    let mut stopped = ListClock::new(Vec::new(rt.alloc()));
+    assert_eq!(rt; tick(&mut stopped), Moment(0));
+    Ok(())
+}
