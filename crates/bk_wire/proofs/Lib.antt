@@ -1,0 +1,5 @@
+pub mod Bytes
+pub mod Codes
+pub mod FieldCodes
+pub mod RequestCodes
+pub mod RequestLaws

@@ -1,0 +1,20 @@
+-- A request that was found in some bytes, without where it lies.
+use Rattle.std.specs.Prelude.{◌≡◌, ℕ, List, length, drop, Result, Ok, Err}
+use Rattle.bk_laws.specs.Wire.{request_text, StandsIn, IsPartial, IsBad}
+use Rattle.bk_wire.specs.declared.stops.Stop.{Stop}
+use Rattle.bk_wire.specs.declared.stops.Stop.TheVariants.{Short, Bad}
+use Rattle.bk_base.specs.declared.requests.Request.{Request}
+use Rattle.bk_base.specs.declared.requests.Request.TheVariants.{Get as get_request, Put as put_request}
+use Rattle.bk_wire.specs.declared.requests.Found.{Found}
+use Rattle.bk_wire.specs.declared.requests.Found.TheVariants.{Get, Put}
+
+abbrev pub request_of : Found → Request
+request_of (Get key) = get_request key.now
+request_of (Put key value) = put_request key.now value.now
+
+-- the request that was found stands at the front and has this many bytes; a stop says why there is none
+abbrev pub Finds : Result (Found × ℕ) Stop → List ℕ → Type 0
+Finds (Ok x) stream =
+    StandsIn stream (request_of x.0) (drop x.1 stream) × (x.1 ≡ length (request_text (request_of x.0)))
+Finds (Err Short) stream = IsPartial stream
+Finds (Err Bad) stream = IsBad stream

@@ -1,0 +1,14 @@
+-- What a reader of a stream holds.
+use Rattle.std.specs.Prelude.{ℕ, ◌+◌, List, length}
+
+pub record Stream : Type 0 where
+  -- the bytes that were taken and aren't read yet
+  pub rest : List ℕ
+  -- how many bytes were read before them
+  pub offset : ℕ
+  -- how many bytes may be taken in all
+  pub most : ℕ
+
+-- how many bytes were taken in all
+abbrev pub taken : Stream → ℕ
+taken stream = stream.offset + length stream.rest
