@@ -89,7 +89,9 @@ impl<R: Files<File = File> + Alloc<A = Global> + Clone + Drop> Folder<R> {
 
     pub(crate) fn create(&mut self, name: Name) -> Result<(), Trouble> {
         let path = self.path_of(name)?;
-        let file = writable().create(true).open(&self.rt, path.as_str())?;
+        let file = options_for(name)
+            .create(true)
+            .open(&self.rt, path.as_str())?;
         if file.metadata()?.len() > 0 {
             return Err(Trouble::Fault);
         }
@@ -117,7 +119,9 @@ impl<R: Files<File = File> + Alloc<A = Global> + Clone + Drop> Folder<R> {
         ensures { IfOk result (λ out. out.name ≡ name) }
     {
         let path = self.path_of(name)?;
-        let file = writable().create_new(true).open(&self.rt, path.as_str())?;
+        let file = options_for(name)
+            .create_new(true)
+            .open(&self.rt, path.as_str())?;
         self.entries.sync_all()?;
         Ok(OsOut::new(name, file))
     }
@@ -153,7 +157,7 @@ impl<R: Files<File = File> + Alloc<A = Global> + Clone + Drop> Folder<R> {
     fn opened(&mut self, name: Name) -> Result<&mut Opened, Trouble> {
         if !self.opened.contains_key(&name) {
             let path = self.path_of(name)?;
-            let file = writable().open(&self.rt, path.as_str())?;
+            let file = options_for(name).open(&self.rt, path.as_str())?;
             let len = file.metadata()?.len();
             self.keep(name, file, len)?;
         }
@@ -205,9 +209,10 @@ fn joined(alloc: Global, folder: &str, name: &str) -> Result<String, AllocError>
     format!(in alloc; "{folder}/{name}")
 }
 
-fn writable() -> OpenOptions {
+/// The store never writes the settings, so they may be read-only.
+fn options_for(name: Name) -> OpenOptions {
     let mut options = OpenOptions::new();
-    options.read(true).append(true);
+    options.read(true).append(name.kind != Kind::Settings);
     options
 }
 
