@@ -1,0 +1,89 @@
+//! How an adapter counts its faults.
+ghost use Rattle.std.specs.Prelude.{◌≡◌, ◌≤◌, Ok, IfOk, OnOk};
+ghost use Rattle.bk_disk.specs.Causes.{Rose, IsCaused, HasCause};
+
+use bk_base::Memory;
+use bk_disk::{DiskError, Failed};
+use std::alloc::{AllocError, AllocFailed};
+use std::io;
+
+/// Why a call went wrong, before it is counted.
+#[derive(Clone, Copy, Debug, PartialEq, Eq)]
+pub(crate) enum Trouble {
+    /// An allocation was refused.
+    Memory,
+    /// The system refused the call, or the file isn't as it should be.
+    Fault,
+}
+
+impl From<Memory> for Trouble {
+    fn from(_: Memory) -> Trouble {
+        Trouble::Memory
+    }
+}
+
+impl From<AllocError> for Trouble {
+    fn from(_: AllocError) -> Trouble {
+        Trouble::Memory
+    }
+}
+
+impl<T: Drop> From<AllocFailed<T>> for Trouble {
+    fn from(_: AllocFailed<T>) -> Trouble {
+        Trouble::Memory
+    }
+}
+
+impl From<io::Error> for Trouble {
+    fn from(_: io::Error) -> Trouble {
+        Trouble::Fault
+    }
+}
+
+/// How often a call failed. At its last value the count stays.
+#[derive(Drop)]
+pub(crate) struct Faults {
+    pub(crate) count: u64,
+}
+
+impl Faults {
+    pub(crate) fn none() -> Faults
+        ensures { result.count ≡ 0 }
+    {
+        Faults { count: 0 }
+    }
+
+    /// Counts a fault.
+    pub(crate) fn failed(&mut self) -> Failed
+        ensures later { self.old.count ≤ self.new.count }
+        ensures rose { Rose self.old.count self.new.count }
+    {
+        self.count = self.count.saturating_add(1);
+        Failed
+    }
+
+    /// Counts whatever went wrong, for a call that has no answer for want of memory.
+    pub(crate) fn counted<T: Drop>(&mut self, done: Result<T, Trouble>) -> Result<T, Failed>
+        ensures value { IfOk result (λ value. done ≡ Ok value) }
+        ensures same { OnOk result (self.new.count ≡ self.old.count) }
+        ensures cause { IsCaused self.old.count self.new.count result }
+    {
+        match done {
+            Ok(value) => Ok(value),
+            Err(_) => Err(self.failed()),
+        }
+    }
+
+    /// Counts a fault, and passes want of memory on.
+    pub(crate) fn told_apart<T: Drop>(&mut self, done: Result<T, Trouble>) -> Result<T, DiskError>
+        ensures value { IfOk result (λ value. done ≡ Ok value) }
+        ensures same { OnOk result (self.new.count ≡ self.old.count) }
+        ensures cause { HasCause self.old.count self.new.count result }
+    {
+        match done {
+            Ok(value) => Ok(value),
+            Err(Trouble::Memory) => Err(DiskError::Memory),
+            Err(Trouble::Fault) => Err(DiskError::from(self.failed())),
+        }
+    }
+}

@@ -1,0 +1,27 @@
+//! The outside as the operating system gives it: a folder of files, the standard streams and the
+//! clock, behind the store's traits.
+//!
+//! No contract says what a file or a stream holds, so these adapters tell nothing. Each passes a
+//! call on and counts its fault: that `Failed` is answered only where the count rose is proved, and
+//! what the system does is trusted.
+#![tactic(auto)]
+
+mod clocks;
+mod disks;
+mod faults;
+mod folders;
+mod outs;
+mod refusals;
+mod sinks;
+mod sources;
+#[cfg(test)]
+mod tests;
+mod views;
+
+pub use clocks::OsClock;
+pub use disks::OsDisk;
+pub use outs::OsOut;
+pub use refusals::OsRefused;
+pub use sinks::OsSink;
+pub use sources::OsSource;
+pub use views::OsView;

@@ -1,0 +1,54 @@
+//! A file that was lent.
+ghost use Rattle.std.specs.Prelude.{◌≡◌};
+
+use crate::faults::{Faults, Trouble};
+use bk_base::Name;
+use bk_disk::{DiskError, Failed, Out};
+use std::fs::File;
+use std::io::Write;
+
+/// A new file that is written apart from its disk.
+#[derive(Drop)]
+pub struct OsOut {
+    pub(crate) name: Name,
+    file: File,
+    faults: Faults,
+}
+
+impl OsOut {
+    pub(crate) fn new(name: Name, file: File) -> OsOut
+        ensures { result.name ≡ name }
+    {
+        OsOut {
+            name,
+            file,
+            faults: Faults::none(),
+        }
+    }
+}
+
+impl Out for OsOut {
+    ghost use Rattle.std.specs.Prelude.{true, false, []};
+
+    ghost tells = { false };
+
+    ghost name = { λ o. o.name };
+
+    ghost bytes = { λ _. [] };
+
+    ghost synced = { λ _. 0 };
+
+    ghost faults = { λ o. o.faults.count };
+
+    ghost weak = { λ _. true };
+
+    fn append(&mut self, piece: &[u8]) -> Result<(), DiskError> {
+        let done = self.file.write_all(piece).map_err(Trouble::from);
+        Ok(self.faults.counted(done)?)
+    }
+
+    fn sync(&mut self) -> Result<(), Failed> {
+        let done = self.file.sync_all().map_err(Trouble::from);
+        self.faults.counted(done)
+    }
+}
