@@ -1,5 +1,5 @@
-// Texts whose CRC-32 is known from elsewhere: four from the standard's check values, and one that is longer than a block
-// and no whole number of blocks, from Python's `zlib.crc32`.
+// Texts whose CRC-32 is known from elsewhere. The last is longer than a block and no whole number of blocks; its CRC is from
+// Python's `zlib.crc32`.
 use super::{Running, crc32};
 
 const KNOWN: [(&[u8], u32); 5] = [
