@@ -1,5 +1,5 @@
 -- How long a key and a value may be.
-use Rattle.std.specs.Prelude.{ℕ, List, ◌≤◌, length}
+use Rattle.std.specs.Prelude.{ℕ, List, ◌≤◌, ◌<◌, length, get_or}
 
 -- A key has 1 to 65,535 bytes.
 pub record IsKey (bytes : List ℕ) : Type 0 where
@@ -9,3 +9,7 @@ pub record IsKey (bytes : List ℕ) : Type 0 where
 -- A value has at most 16,777,216 bytes.
 abbrev pub IsValue : List ℕ → Type 0
 IsValue bytes = length bytes ≤ 16777216
+
+-- Each number is a byte. Keys and values hold bytes, but a variable of a definition ranges over every list.
+abbrev pub AreBytes : List ℕ → Type 0
+AreBytes bytes = (i : ℕ) → get_or bytes i 0 < 256

@@ -3,7 +3,7 @@ ghost use Rattle.std.specs.Prelude.{◌≡◌, ◌↔◌, [], ◌∷◌, length,
 ghost use Rattle.std.specs.Cmp.Rules.{comparing, hashing};
 ghost use Rattle.std.specs.Str.{bytes_eq};
 ghost use Rattle.std.proofs.Common.{rules};
-ghost use Rattle.bk_base.specs.Bounds.{IsKey};
+ghost use Rattle.bk_base.specs.Bounds.{AreBytes, IsKey};
 
 use crate::refusals::Memory;
 use std::hash::{Hash, Hasher};
@@ -23,13 +23,13 @@ pub struct KeyLength {
 
 impl Model for Key {
     ghost use Rattle.std.specs.Prelude.{List, ℕ};
-    ghost use Rattle.bk_base.specs.Bounds.{IsKey};
+    ghost use Rattle.bk_base.specs.Bounds.{AreBytes, IsKey};
 
     ghost Value = { List ℕ };
 
     ghost view = { λ key. key.bytes.items };
 
-    ghost invariant = { λ key. IsKey key.bytes.items };
+    ghost invariant = { λ key. IsKey key.bytes.items × AreBytes key.bytes.items };
 }
 
 impl Key {
@@ -50,6 +50,7 @@ impl Key {
     pub fn bytes(&self) -> &[u8]
         ensures value { result.now ≡ self.now }
         ensures bounds { IsKey self.now }
+        ensures octets { AreBytes self.now }
     {
         self.bytes.as_slice()
     }

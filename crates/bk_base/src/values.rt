@@ -1,6 +1,6 @@
 //! Values.
 ghost use Rattle.std.specs.Prelude.{◌≡◌, ◌↔◌, length, IsOk, IfOk, IfErr};
-ghost use Rattle.bk_base.specs.Bounds.{IsValue};
+ghost use Rattle.bk_base.specs.Bounds.{AreBytes, IsValue};
 
 use std::marker::Model;
 
@@ -18,13 +18,13 @@ pub struct ValueLength {
 
 impl Model for Value {
     ghost use Rattle.std.specs.Prelude.{List, ℕ};
-    ghost use Rattle.bk_base.specs.Bounds.{IsValue};
+    ghost use Rattle.bk_base.specs.Bounds.{AreBytes, IsValue};
 
     ghost Value = { List ℕ };
 
     ghost view = { λ value. value.bytes.items };
 
-    ghost invariant = { λ value. IsValue value.bytes.items };
+    ghost invariant = { λ value. IsValue value.bytes.items × AreBytes value.bytes.items };
 }
 
 impl Value {
@@ -45,6 +45,7 @@ impl Value {
     pub fn bytes(&self) -> &[u8]
         ensures value { result.now ≡ self.now }
         ensures bounds { IsValue self.now }
+        ensures octets { AreBytes self.now }
     {
         self.bytes.as_slice()
     }

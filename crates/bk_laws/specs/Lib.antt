@@ -2,3 +2,4 @@ pub mod Log
 pub mod History
 pub mod Wire
 pub mod Session
+pub mod Record

@@ -1,0 +1,40 @@
+//! From a write to its record.
+ghost use Rattle.std.specs.Prelude.{◌≡◌, ◌++◌, OnOk, OnErr};
+ghost use Rattle.bk_laws.specs.Record.{IsSeq, IsWritable, record_of, value_of};
+
+use crate::header::{HEADER, fields};
+use bk_base::{Body, Memory, Write};
+use bk_crc::Running;
+
+/// Appends the record of the write. `Memory` leaves `out` as it was.
+pub fn encode(write: &Write, out: &mut Vec<u8>) -> Result<(), Memory>
+    requires { IsSeq write.now.seq.0 }
+    ensures ok { OnOk result (out.new.items ≡ out.old.items ++ record_of write.now) }
+    ensures err { OnErr result (out.new.items ≡ out.old.items) }
+    // So what was written can be read again.
+    ensures writable { IsWritable write.now }
+{
+    let fields = fields(write);
+    let key = write.key.bytes();
+    let value = value_bytes(&write.body);
+    let mut check = Running::new();
+    check.add(&fields);
+    check.add(key);
+    check.add(value);
+    out.reserve(HEADER + key.len() + value.len())?;
+    out.extend_from_slice(&check.end().to_be_bytes())?;
+    out.extend_from_slice(&fields)?;
+    out.extend_from_slice(key)?;
+    out.extend_from_slice(value)?;
+    Ok(())
+}
+
+// The value of a put; a tombstone has none.
+fn value_bytes(body: &Body) -> &[u8]
+    ensures { result.now ≡ value_of body.now }
+{
+    match body {
+        Body::Put(value) => value.bytes(),
+        Body::Gone => &[],
+    }
+}
