@@ -12,3 +12,6 @@ mod stops;
 pub use laws::{one_answer, one_request};
 pub use reader::{Next, Reader};
 pub use replies::write_reply;
+
+#[cfg(test)]
+mod tests;
