@@ -92,6 +92,13 @@ impl Reader {
         }
     }
 
+    /// How many more bytes may be taken.
+    pub fn room(&self) -> u64
+        ensures { result + taken self.now ≡ self.now.most }
+    {
+        self.most - self.offset - (self.bytes.len() - self.start) as u64
+    }
+
     /// The offset in the stream of the bytes that aren't read yet, or `None` where there are none.
     pub fn rest(&self) -> Option<u64>
         ensures { MatchOption result (self.now.rest ≡ [])
