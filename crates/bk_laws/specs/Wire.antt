@@ -1,15 +1,11 @@
 -- The wire grammar: the texts of requests and of replies, and what stands at the front of a stream.
-use Rattle.std.specs.Prelude.{◌≡◌, ℕ, ◌<◌, List, [], ◌∷◌, ◌++◌, length, get_or, codes}
+use Rattle.std.specs.Prelude.{◌≡◌, ℕ, ◌<◌, List, [], ◌∷◌, ◌++◌, length, codes}
 use Rattle.std.specs.Fmt.{decimal}
-use Rattle.bk_base.specs.Bounds.{IsKey, IsValue}
+use Rattle.bk_base.specs.Bounds.{AreBytes, IsKey, IsValue}
 use Rattle.bk_base.specs.declared.requests.Request.{Request}
 use Rattle.bk_base.specs.declared.requests.Request.TheVariants.{Get, Put}
 use Rattle.bk_base.specs.declared.requests.Reply.{Reply}
 use Rattle.bk_base.specs.declared.requests.Reply.TheVariants.{Value, Absent, Numbered}
-
--- each number is a byte
-abbrev pub AreBytes : List ℕ → Type 0
-AreBytes bytes = (i : ℕ) → get_or bytes i 0 < 256
 
 -- these bytes and a line feed; the bytes of a key or a value may hold line feeds of their own
 abbrev pub line : List ℕ → List ℕ

@@ -1,7 +1,7 @@
 -- Four laws of a reader on lists, and readers one after the other. A text is read again whatever follows
 -- it, what is read is a text, what is cut off can go on to a text, and what is refused stays refused.
 use Rattle.std.proofs.Common.{◌≡◌, ℕ, Bool, true, false, cond, List, [], ◌++◌, ◌⊎◌, Result, Ok, Err, refl, sym, ap, ◌∙◌, subst, inl, inr, append_assoc}
-use Rattle.bk_laws.specs.Wire.{AreBytes}
+use Rattle.bk_base.specs.Bounds.{AreBytes}
 use Rattle.bk_wire.specs.declared.stops.Stop.{Stop}
 use Rattle.bk_wire.specs.declared.stops.Stop.TheVariants.{Short, Bad}
 use Rattle.bk_wire.specs.Reading.{◌>>=◌, or_else}

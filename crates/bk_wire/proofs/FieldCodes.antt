@@ -3,7 +3,7 @@ use Rattle.std.proofs.Common.{◌≡◌, ℕ, ◌+◌, ◌-◌, ◌*◌, ◌/◌
 use Rattle.std.proofs.lemmas.Bool.{and_parts, and_from}
 use Rattle.std.proofs.lemmas.List.{take_at, drop_at, length-take-le, length-replicate}
 use Rattle.std.proofs.lemmas.Fmt.{decimal_digit, decimal_step, decimal_by_steps}
-use Rattle.bk_laws.specs.Wire.{AreBytes}
+use Rattle.bk_base.specs.Bounds.{AreBytes}
 use Rattle.bk_wire.specs.declared.stops.Stop.TheVariants.{Short, Bad}
 use Rattle.bk_wire.specs.Reading.{literal_at, goes_on, digits_at, begins, number_at, piece_at}
 use Rattle.bk_wire.proofs.Bytes.{joined_bytes, zeros_bytes, taken_bytes}

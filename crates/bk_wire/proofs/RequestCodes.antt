@@ -2,7 +2,8 @@
 use Rattle.std.proofs.Common.{◌≡◌, ℕ, ◌≤◌, List, [], ◌∷◌, ◌++◌, ◌⊎◌, Result, length, decimal, codes, Ok, Err, refl, ap, ◌∙◌, inl, inr, arith, lit≤, lit<, append_assoc}
 use Rattle.bk_base.specs.declared.requests.Request.{Request}
 use Rattle.bk_base.specs.declared.requests.Request.TheVariants.{Get, Put}
-use Rattle.bk_laws.specs.Wire.{AreBytes, FitsKey, FitsValue, Fits, request_text}
+use Rattle.bk_base.specs.Bounds.{AreBytes}
+use Rattle.bk_laws.specs.Wire.{FitsKey, FitsValue, Fits, request_text}
 use Rattle.bk_wire.specs.declared.stops.Stop.{Stop}
 use Rattle.bk_wire.specs.declared.stops.Stop.TheVariants.{Bad}
 use Rattle.bk_wire.specs.Reading.{◌>>=◌, literal_at, number_at, piece_at, get_at, put_at, request_at}

@@ -5,7 +5,8 @@ use Rattle.std.proofs.lemmas.List.{nil_from_length, drop_at}
 use Rattle.std.proofs.lemmas.Bool.{cases_lt}
 use Rattle.bk_base.specs.declared.requests.Request.{Request}
 use Rattle.bk_base.specs.declared.requests.Request.TheVariants.{Get, Put}
-use Rattle.bk_laws.specs.Wire.{AreBytes, Fits, request_text, StandsIn, NoneStands, IsPartial, IsBad}
+use Rattle.bk_base.specs.Bounds.{AreBytes}
+use Rattle.bk_laws.specs.Wire.{Fits, request_text, StandsIn, NoneStands, IsPartial, IsBad}
 use Rattle.bk_wire.specs.declared.stops.Stop.{Stop}
 use Rattle.bk_wire.specs.declared.stops.Stop.TheVariants.{Short, Bad}
 use Rattle.bk_wire.specs.Reading.{request_at}

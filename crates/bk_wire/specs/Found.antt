@@ -1,4 +1,4 @@
--- A request that was found in some bytes, without where it lies.
+-- A request that was found in some bytes, without where it lies. Only private functions speak of it.
 use Rattle.std.specs.Prelude.{◌≡◌, ℕ, List, length, drop, Result, Ok, Err}
 use Rattle.bk_laws.specs.Wire.{request_text, StandsIn, IsPartial, IsBad}
 use Rattle.bk_wire.specs.declared.stops.Stop.{Stop}

@@ -1,4 +1,5 @@
 -- What reading answers, as functions on lists: what was read and the bytes after it, or why nothing was.
+-- Only the clauses of private functions speak of these; what a caller sees rests on the wire grammar alone.
 use Rattle.std.specs.Prelude.{◌≡◌, ℕ, ◌+◌, ◌-◌, ◌*◌, Bool, cond, ◌&&◌, ◌==◌, nat_lt, nat_le, List, [], ◌∷◌, length, take, drop, codes, Result, Ok, Err}
 use Rattle.std.specs.Char.{is_ascii_digit}
 use Rattle.bk_base.specs.declared.requests.Request.{Request}

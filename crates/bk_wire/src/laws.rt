@@ -1,7 +1,8 @@
 //! What holds of the wire grammar: each is a law, proved once, on a function that does nothing.
 ghost use Rattle.std.specs.Prelude.{◌≡◌, ◌⊎◌, ℕ, List, ◌++◌};
 ghost use Rattle.bk_base.specs.declared.requests.Request.{Request as AnyRequest};
-ghost use Rattle.bk_laws.specs.Wire.{AreBytes, Fits, request_text, StandsIn, NoneStands, IsPartial, IsBad};
+ghost use Rattle.bk_base.specs.Bounds.{AreBytes};
+ghost use Rattle.bk_laws.specs.Wire.{Fits, request_text, StandsIn, NoneStands, IsPartial, IsBad};
 
 /// No request begins another: where two requests, each with some rest, are the same bytes, they
 /// are one request with one rest.

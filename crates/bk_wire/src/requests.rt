@@ -1,4 +1,4 @@
-//! What requests stand in some bytes.
+//! Finds the request at the front of some bytes.
 ghost use Rattle.bk_wire.specs.Reading.{Gives, get_at, put_at, request_at};
 ghost use Rattle.bk_wire.specs.Found.{request_of, Finds};
 ghost use Rattle.bk_base.specs.Bounds.{IsKey, IsValue};
