@@ -1,1 +1,5 @@
+pub mod Answering
+pub mod Codec
+pub mod FileRecords
+pub mod Headers
 pub mod Records

@@ -1,0 +1,111 @@
+//! From a record to its write.
+ghost use Rattle.std.specs.Prelude.{◌≡◌, ◌+◌, ◌≤◌, ℕ, List, length, MatchResult, IfOk, IfErr};
+ghost use Rattle.bk_base.specs.declared.writes.Write.{Write};
+ghost use Rattle.bk_laws.specs.Record.{RecordStands};
+ghost use Rattle.bk_record.specs.Header.{IsSound, body_in, value_length, write_in};
+ghost use Rattle.bk_record.specs.Stops.{IsDecoded, IsStop, IsWhole};
+ghost use Rattle.bk_record.specs.declared.decoding.Stop.TheVariants.{Memory as memory_stop};
+
+use crate::header::{CHECKSUM, HEADER, Header, TOMBSTONE};
+use bk_base::{Body, Key, Memory, Seq, Value, Write};
+use bk_crc::crc32;
+use std::alloc::Global;
+
+/// A record that was read: its write, its length in bytes, and its checksum.
+#[derive(Debug, Drop)]
+pub struct Decoded {
+    pub write: Write,
+    pub size: u32,
+    pub crc: u32,
+}
+
+/// Why no record was read. The causes are tested in this order.
+#[derive(Clone, Copy, Debug, PartialEq, Eq)]
+pub enum Stop {
+    /// There are no bytes.
+    End,
+    /// There are fewer bytes than a header has, or than its sizes say.
+    Short,
+    /// The checksum that is stored isn't that of the bytes.
+    BadCheck { stored: u32, computed: u32 },
+    /// A field of the header is out of its bounds.
+    BadField,
+    /// A record stands here, and memory for its key and value was refused.
+    Memory,
+}
+
+/// The record at the front of the bytes, whatever follows it; or why none was read.
+pub fn decode(alloc: Global, bytes: &[u8]) -> Result<Decoded, Stop>
+    ensures decoded { IfOk result (IsDecoded bytes.now) }
+    ensures stop { IfErr result (IsStop bytes.now) }
+    // A record that stands there is read, unless memory runs out.
+    ensures again { (w : Write) (rest : List ℕ) → RecordStands bytes.now w rest →
+        MatchResult result (λ d. d.write ≡ w) (λ stop. stop ≡ memory_stop) }
+{
+    let (header, record) = whole_record(bytes)?;
+    let computed = crc32(&record[CHECKSUM..]);
+    if header.crc != computed {
+        return Err(Stop::BadCheck {
+            stored: header.crc,
+            computed,
+        });
+    }
+    if !header.is_sound() {
+        return Err(Stop::BadField);
+    }
+    match write_of(alloc, &header, &record[HEADER..]) {
+        Ok(write) => Ok(Decoded {
+            write,
+            size: record.len() as u32,
+            crc: computed,
+        }),
+        Err(Memory) => Err(Stop::Memory),
+    }
+}
+
+// The header at the front, and as many bytes as its sizes say.
+fn whole_record(bytes: &[u8]) -> Result<(Header, &[u8]), Stop>
+    ensures whole { IfOk result (λ x. IsWhole bytes.now x.0 x.1.now) }
+    ensures stop { IfErr result (IsStop bytes.now) }
+{
+    if bytes.is_empty() {
+        return Err(Stop::End);
+    }
+    let Some((front, _rest)) = bytes.split_first_chunk::<HEADER>() else {
+        return Err(Stop::Short);
+    };
+    let header = Header::read(front);
+    let size = header.size() as usize;
+    if bytes.len() < size {
+        return Err(Stop::Short);
+    }
+    Ok((header, &bytes[..size]))
+}
+
+// The write of a sound header and the bytes behind it.
+fn write_of(alloc: Global, header: &Header, bytes: &[u8]) -> Result<Write, Memory>
+    requires sound { IsSound header.now }
+    requires sizes { length bytes.now ≡ header.now.ksz + value_length header.now.vsz }
+    ensures { IfOk result (λ write. write ≡ write_in header.now bytes.now) }
+{
+    let (key, value) = bytes.split_at(usize::from(header.ksz));
+    let key = Key::new(key.to_vec(alloc)?).unwrap();
+    let body = body_of(alloc, header.vsz, value)?;
+    Ok(Write {
+        seq: Seq(header.seq),
+        moment: header.moment,
+        key,
+        body,
+    })
+}
+
+fn body_of(alloc: Global, vsz: u32, value: &[u8]) -> Result<Body, Memory>
+    requires { (length value.now ≡ value_length vsz) × (value_length vsz ≤ 16777216) }
+    ensures { IfOk result (λ body. body ≡ body_in vsz value.now) }
+{
+    if vsz == TOMBSTONE {
+        return Ok(Body::Gone);
+    }
+    let value = Value::new(value.to_vec(alloc)?).unwrap();
+    Ok(Body::Put(value))
+}
