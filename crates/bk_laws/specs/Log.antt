@@ -1,5 +1,5 @@
 -- The log of a store, and what it says of each key.
-use Rattle.std.specs.Prelude.{◌≡◌, ℕ, ◌+◌, ◌<◌, List, [], ◌∷◌, Bool, true, false, ◌||◌, ◌==◌, nat_lt, nat_le, cond, Option, None, Some, filter, get_or, length, IsSome, IfSome, is_some}
+use Rattle.std.specs.Prelude.{◌≡◌, ℕ, ◌+◌, ◌<◌, List, [], ◌∷◌, Bool, ◌||◌, ◌==◌, nat_lt, nat_le, cond, Option, None, Some, filter}
 use Rattle.std.specs.Str.{bytes_eq}
 use Rattle.bk_base.specs.declared.writes.Write.{Write}
 use Rattle.bk_base.specs.declared.writes.Body.{Body}
