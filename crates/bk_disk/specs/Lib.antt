@@ -4,3 +4,4 @@ pub mod Names
 pub mod Told
 pub mod Stops
 pub mod Calls
+pub mod Well

@@ -3,6 +3,7 @@ ghost use Rattle.std.specs.Prelude.{◌≡◌};
 ghost use Rattle.bk_disk.specs.declared.failures.DiskError.TheVariants.{Failed as failed, Memory as memory};
 
 use bk_base::Memory;
+use std::alloc::{AllocError, AllocFailed};
 
 /// A call on an object of the outside failed; the object counted it.
 #[derive(Clone, Copy, Debug, PartialEq, Eq)]
@@ -30,5 +31,21 @@ impl From<Memory> for DiskError {
 
     fn from(_: Memory) -> DiskError {
         DiskError::Memory
+    }
+}
+
+impl From<AllocError> for DiskError {
+    ghost from_gives = { λ _ refusal. refusal ≡ memory };
+
+    fn from(_: AllocError) -> DiskError {
+        Memory.into()
+    }
+}
+
+impl<T: Drop> From<AllocFailed<T>> for DiskError {
+    ghost from_gives = { λ _ refusal. refusal ≡ memory };
+
+    fn from(_: AllocFailed<T>) -> DiskError {
+        Memory.into()
     }
 }

@@ -1,2 +1,10 @@
 pub mod Countdown
 pub mod Streams
+pub mod Contents
+pub mod Journal
+pub mod Fits
+pub mod Directory
+pub mod Plans
+pub mod Chosen
+pub mod Plan
+pub mod Disk

@@ -1,6 +1,7 @@
 -- What a source and a sink in memory are.
-use Rattle.std.specs.Prelude.{◌≡◌, ℕ, List}
+use Rattle.std.specs.Prelude.{◌≡◌, ℕ, Bool, List}
 use Rattle.std.specs.declared.option.Option.{Option}
+use Rattle.bk_base.specs.declared.names.Name.{Name}
 
 pub record Input : Type 0 where
   pub whole : List ℕ
@@ -23,3 +24,16 @@ pub record Output : Type 0 where
   pub faults : ℕ
   -- which write from now fails
   pub due : Option ℕ
+
+-- a view: the bytes left of its range
+pub record Range : Type 0 where
+  pub left : List ℕ
+  pub faults : ℕ
+  pub weak : Bool
+
+-- a lent file
+pub record Written : Type 0 where
+  pub name : Name
+  pub bytes : List ℕ
+  -- the length of its synced bytes
+  pub synced : ℕ

@@ -2,14 +2,24 @@
 //! where they were told to.
 #![tactic(auto)]
 
+mod changes;
 mod clocks;
 mod countdown;
+mod directory;
+mod disks;
+mod files;
+mod outs;
+mod plans;
 mod sinks;
 mod sources;
+mod views;
 
 pub use clocks::ListClock;
+pub use disks::MemDisk;
+pub use outs::MemOut;
 pub use sinks::MemSink;
 pub use sources::MemSource;
+pub use views::MemView;
 
 #[cfg(test)]
 mod tests;

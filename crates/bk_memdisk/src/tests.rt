@@ -1,6 +1,6 @@
-use crate::{ListClock, MemSink, MemSource};
-use bk_base::Moment;
-use bk_disk::{Clock, Failed, Sink, Source};
+use crate::{ListClock, MemDisk, MemSink, MemSource};
+use bk_base::{Kind, Moment, Name};
+use bk_disk::{Clock, Disk, DiskError, Failed, Sink, Source};
 use std::test::Fail;
 
 // Reads by the bound.
@@ -47,5 +47,35 @@ fn a_clock_keeps_its_last_moment(rt: HostRuntime) -> Result<(), Fail> {
     assert_eq!(rt; tick(&mut clock), Moment(9));
     let mut stopped = ListClock::new(Vec::new(rt.alloc()));
     assert_eq!(rt; tick(&mut stopped), Moment(0));
+    Ok(())
+}
+
+const FIRST: Name = Name {
+    id: 1,
+    kind: Kind::Main,
+};
+
+// The first two calls of a put: by the bound, so that any disk will do.
+fn begin<D: Disk>(disk: &mut D) -> Result<(), DiskError> {
+    for file in disk.list()? {
+        disk.remove(file.name)?;
+    }
+    Ok(())
+}
+
+#[test]
+fn calls_fail_as_chosen(rt: HostRuntime) -> Result<(), Fail> {
+    let mut disk = MemDisk::new(rt.alloc());
+    disk.place(FIRST, b"abc").map_err(|_| "memory")?;
+    disk.fail(1, 0).map_err(|_| "memory")?;
+    disk.fail(3, 1).map_err(|_| "memory")?;
+    assert_eq!(rt; begin(&mut disk), Err(DiskError::Failed));
+    assert_eq!(rt; disk.bytes(FIRST), Some(b"abc".as_slice()));
+    assert_eq!(rt; begin(&mut disk), Err(DiskError::Failed));
+    assert_eq!(rt; disk.bytes(FIRST), None);
+    disk.fuse(1, 0);
+    assert_eq!(rt; begin(&mut disk), Ok(()));
+    assert_eq!(rt; begin(&mut disk), Err(DiskError::Failed));
+    assert_eq!(rt; begin(&mut disk), Err(DiskError::Failed));
     Ok(())
 }

@@ -1,0 +1,10 @@
+use Rattle.std.proofs.Common.{◌≡◌, ℕ, min, length, List, take, drop, arith, []}
+use Rattle.std.proofs.lemmas.List.{take_all, drop_all}
+use Rattle.bk_memdisk.specs.declared.plans.Chosen.{Chosen}
+use Rattle.bk_memdisk.specs.Chosen.{pairs_of}
+use Rattle.bk_memdisk.proofs.Choices.{pairs_split}
+use Rattle.bk_memdisk.proofs.plans.Plan.fuse.Goals as goal
+
+pub returns : goal.returns
+returns c =
+    rw (c.saturating_add.ensures, ← c.self.view_is) (grind (arith, pairs_split, take_all c.len.result c.self.inside.chosen.items (omega arith), drop_all c.len.result c.self.inside.chosen.items (omega arith)))

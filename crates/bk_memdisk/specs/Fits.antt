@@ -1,0 +1,42 @@
+-- How a file in memory stands for what the journal says of it.
+use Rattle.std.specs.Prelude.{◌≡◌, ℕ, ◌+◌, ◌≤◌, Bool, true, false, cond, List, [], ◌∷◌, length, take, map, nat_lt}
+use Rattle.std.proofs.Common.{zero, suc}
+use Rattle.bk_base.specs.declared.names.Name.{Name}
+use Rattle.bk_disk.specs.Names.{same}
+use Rattle.bk_disk.specs.Told.{Table, Image}
+use Rattle.bk_disk.specs.Calls.{all_safe}
+use Rattle.bk_memdisk.specs.declared.files.MemFile.{MemFile}
+use Rattle.bk_memdisk.specs.Journal.{Kept}
+
+abbrev pub image_of : List MemFile → Image
+image_of files = map (λ (f : MemFile). (f.name, f.bytes.items)) files
+
+abbrev pub rooms_of : List MemFile → Table ℕ
+rooms_of files = map (λ (f : MemFile). (f.name, f.room)) files
+
+-- the entries of the journal that are reserved for a file
+abbrev pub owed : MemFile → ℕ
+owed f = (cond (nat_lt 0 f.room) 2 0 + cond f.dirty 1 0) + cond f.lent 1 0
+
+-- a file stands for what the journal says of it
+pub record Fits (f : MemFile) (k : Kept) : Type 0 where
+  pub bytes : f.bytes.items ≡ take (length f.bytes.items) k.text
+  pub synced : f.safe ≤ length f.bytes.items
+  pub safe : k.front.safe ≡ take f.safe f.bytes.items
+  pub reach : length f.bytes.items ≤ k.front.reach
+  pub lent : k.front.lent ≡ f.lent
+  -- nothing was handed since the last good sync: a sync changes nothing
+  pub clean : f.dirty ≡ false → k.front ≡ all_safe f.bytes.items k.front
+  pub away : f.lent ≡ true → (f.bytes.items ≡ []) × (f.room ≡ 0)
+
+abbrev pub Tied : List MemFile → Table Kept → Type 0
+Tied [] [] = Unit {0}
+Tied [] (e ∷ es) = ⊥
+Tied (f ∷ fs) [] = ⊥
+Tied (f ∷ fs) (e ∷ es) = (f.name ≡ e.0) × Fits f e.1 × Tied fs es
+
+-- the first file of this name stands there
+abbrev pub IsFirst : Name → List MemFile → ℕ → Type 0
+IsFirst name [] i = ⊥
+IsFirst name (f ∷ fs) zero = same name f.name ≡ true
+IsFirst name (f ∷ fs) (suc i) = (same name f.name ≡ false) × IsFirst name fs i

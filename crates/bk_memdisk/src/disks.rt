@@ -1,0 +1,269 @@
+//! A disk in memory.
+ghost use Rattle.std.specs.Prelude.{◌≡◌, ◌≤◌, IsTrue, [], OnOk, OnErr, option_copied};
+ghost use Rattle.bk_disk.specs.Causes.{Rose};
+ghost use Rattle.bk_disk.specs.Well.{is_well};
+
+use crate::directory::Directory;
+use crate::outs::MemOut;
+use crate::plans::Plan;
+use crate::views::MemView;
+use bk_base::Name;
+use bk_disk::{Disk, DiskError, Failed, Listed, Memory};
+use std::alloc::Global;
+
+/// A disk in memory that tells its content. It fails exactly where `fail` or `fuse` chose the call,
+/// or a view asks past the end.
+#[derive(Drop)]
+pub struct MemDisk {
+    alloc: Global,
+    directory: Directory,
+    calls: Plan,
+    views: Plan,
+    faults: u64,
+    weak_views: u64,
+    ghost well: { IsTrue (is_well directory.told) },
+}
+
+impl MemDisk {
+    ghost use Rattle.bk_disk.specs.Told.{nothing_told, at};
+    ghost use Rattle.bk_memdisk.specs.Contents.{Placed};
+    ghost use Rattle.bk_memdisk.specs.Plans.{nothing_chosen, chosen, fused};
+    ghost use Rattle.bk_memdisk.specs.Disk.{told_by, calls_of, views_of, faults_of};
+
+    /// An empty disk. Nothing is set to fail.
+    pub fn new(alloc: Global) -> MemDisk
+        ensures told { told_by result ≡ nothing_told }
+        ensures calls { calls_of result ≡ nothing_chosen }
+        ensures views { views_of result ≡ nothing_chosen }
+        ensures faults { faults_of result ≡ 0 }
+    {
+        MemDisk {
+            alloc,
+            directory: Directory::new(alloc),
+            calls: Plan::new(alloc),
+            views: Plan::new(alloc),
+            faults: 0,
+            weak_views: 0,
+        }
+    }
+
+    /// Puts a synced file there, in the place of one of that name.
+    pub fn place(&mut self, name: Name, bytes: &[u8]) -> Result<(), Memory>
+        ensures ok { OnOk result (Placed name bytes.now (told_by self.old) (told_by self.new)) }
+        ensures err { OnErr result (told_by self.new ≡ told_by self.old) }
+        ensures plans { (calls_of self.new ≡ calls_of self.old) × (views_of self.new ≡ views_of self.old) }
+    {
+        let Ok(kept) = bytes.to_vec(self.alloc) else {
+            return Err(Memory);
+        };
+        let Ok(copy) = bytes.to_vec(self.alloc) else {
+            return Err(Memory);
+        };
+        match self.directory.place(name, kept, copy) {
+            Ok(()) => Ok(()),
+            Err(_) => Err(Memory),
+        }
+    }
+
+    /// A file's bytes as it reads.
+    pub fn bytes(&self, name: Name) -> Option<&[u8]>
+        ensures { option_copied result ≡ at (told_by self.now).image name }
+    {
+        self.directory.bytes(name)
+    }
+
+    /// The nth call from now, 1 is the next, fails with this effect: of an append so many bytes get
+    /// through; a call on the directory and a cut are not done at 0 and done at any other number.
+    pub fn fail(&mut self, nth: u64, effect: u64) -> Result<(), Memory>
+        ensures ok { OnOk result (calls_of self.new ≡ chosen nth effect (calls_of self.old)) }
+        ensures err { OnErr result (calls_of self.new ≡ calls_of self.old) }
+        ensures others { (told_by self.new ≡ told_by self.old) × (views_of self.new ≡ views_of self.old) }
+    {
+        self.calls.choose(nth, effect).map_err(|_| Memory)
+    }
+
+    /// Each read of the nth view from now fails.
+    pub fn fail_view(&mut self, nth: u64) -> Result<(), Memory>
+        ensures ok { OnOk result (views_of self.new ≡ chosen nth 0 (views_of self.old)) }
+        ensures err { OnErr result (views_of self.new ≡ views_of self.old) }
+        ensures others { (told_by self.new ≡ told_by self.old) × (calls_of self.new ≡ calls_of self.old) }
+    {
+        self.views.choose(nth, 0).map_err(|_| Memory)
+    }
+
+    /// After so many calls all fail, the first with this effect, the others with 0. A later fuse
+    /// takes the place of an earlier one.
+    pub fn fuse(&mut self, calls: u64, effect: u64)
+        ensures fused { calls_of self.new ≡ fused calls effect (calls_of self.old) }
+        ensures others { (told_by self.new ≡ told_by self.old) × (views_of self.new ≡ views_of self.old) }
+    {
+        self.calls.fuse(calls, effect);
+    }
+}
+
+// Counts a fault.
+fn fault(faults: &mut u64) -> Failed
+    ensures later { faults.old ≤ faults.new }
+    ensures rose { Rose faults.old faults.new }
+{
+    *faults = faults.saturating_add(1);
+    Failed
+}
+
+#[tactic(
+    auto,
+    using(
+        bk_disk::proofs::Still::still_appended,
+        bk_disk::proofs::Still::still_synced,
+        bk_disk::proofs::Still::still_cut,
+        bk_disk::proofs::Still::still_made,
+        bk_disk::proofs::Still::still_removed,
+        bk_disk::proofs::Still::still_renamed,
+        bk_disk::proofs::Still::still_returned,
+        bk_disk::proofs::Still::still_viewed,
+        bk_disk::proofs::Still::still_same
+    )
+)]
+impl Disk for MemDisk {
+    ghost use Rattle.std.specs.Prelude.{true, refl};
+    ghost use Rattle.bk_memdisk.specs.Contents.{room_of};
+    ghost use Rattle.bk_disk.proofs.Tests.{from_test};
+
+    type View = MemView;
+
+    type Out = MemOut;
+
+    ghost tells = { true };
+
+    ghost told = { λ d. d.directory.told };
+
+    ghost room = { λ d n. room_of d.directory n };
+
+    ghost faults = { λ d. d.faults };
+
+    ghost weak_views = { λ d. d.weak_views };
+
+    ghost weak_outs = { λ _. 0 };
+
+    ghost well = { λ d _. from_test d.directory.told d.well };
+
+    ghost views_tell = { λ _. refl };
+
+    ghost outs_tell = { λ _. refl };
+
+    fn list(&mut self) -> Result<Vec<Listed>, DiskError> {
+        if self.calls.next().is_some() {
+            return Err(fault(&mut self.faults).into());
+        }
+        Ok(self.directory.list()?)
+    }
+
+    fn view(&mut self, name: Name, at: u64, len: u64) -> Result<MemView, DiskError> {
+        let fails = self.calls.next().is_some();
+        match self.directory.view(name, at, len, fails) {
+            Ok(bytes) => {
+                let weak = self.views.next().is_some();
+                if weak {
+                    self.weak_views = self.weak_views.saturating_add(1);
+                }
+                Ok(MemView::new(bytes, weak))
+            }
+            Err(DiskError::Failed) => Err(fault(&mut self.faults).into()),
+            Err(DiskError::Memory) => Err(DiskError::Memory),
+        }
+    }
+
+    fn create(&mut self, name: Name) -> Result<(), DiskError> {
+        match self.calls.next() {
+            None => Ok(self.directory.create(name, false)?),
+            Some(0) => Err(fault(&mut self.faults).into()),
+            Some(_) => {
+                self.directory.create(name, false)?;
+                Err(fault(&mut self.faults).into())
+            }
+        }
+    }
+
+    fn ready(&mut self, name: Name, bytes: u64) -> Result<(), Memory> {
+        self.directory
+            .ready(name, bytes as usize)
+            .map_err(|_| Memory)
+    }
+
+    fn append(&mut self, name: Name, piece: &[u8]) -> Result<(), Failed> {
+        match self.calls.next() {
+            None => {
+                self.directory.append(name, piece, piece.len());
+                Ok(())
+            }
+            Some(effect) => {
+                let through = (effect as usize).min(piece.len());
+                self.directory.append(name, piece, through);
+                Err(fault(&mut self.faults))
+            }
+        }
+    }
+
+    fn cut(&mut self, name: Name, len: u64) -> Result<(), Failed> {
+        match self.calls.next() {
+            None => {
+                self.directory.cut(name, len as usize);
+                Ok(())
+            }
+            Some(0) => Err(fault(&mut self.faults)),
+            Some(_) => {
+                self.directory.cut(name, len as usize);
+                Err(fault(&mut self.faults))
+            }
+        }
+    }
+
+    fn sync(&mut self, name: Name) -> Result<(), Failed> {
+        if self.calls.next().is_some() {
+            return Err(fault(&mut self.faults));
+        }
+        self.directory.sync(name);
+        Ok(())
+    }
+
+    fn lend(&mut self, name: Name) -> Result<MemOut, DiskError> {
+        match self.calls.next() {
+            None => {
+                self.directory.create(name, true)?;
+                Ok(MemOut::new(self.alloc, name))
+            }
+            Some(0) => Err(fault(&mut self.faults).into()),
+            Some(_) => {
+                self.directory.create(name, true)?;
+                Err(fault(&mut self.faults).into())
+            }
+        }
+    }
+
+    fn adopt(&mut self, out: MemOut) {
+        let (name, bytes, copy) = out.into_parts();
+        self.directory.adopt(name, bytes, copy);
+    }
+
+    fn rename(&mut self, from: Name, to: Name) -> Result<(), DiskError> {
+        match self.calls.next() {
+            None => Ok(self.directory.rename(from, to)?),
+            Some(0) => Err(fault(&mut self.faults).into()),
+            Some(_) => {
+                self.directory.rename(from, to)?;
+                Err(fault(&mut self.faults).into())
+            }
+        }
+    }
+
+    fn remove(&mut self, name: Name) -> Result<(), DiskError> {
+        match self.calls.next() {
+            None => Ok(self.directory.remove(name)?),
+            Some(0) => Err(fault(&mut self.faults).into()),
+            Some(_) => {
+                self.directory.remove(name)?;
+                Err(fault(&mut self.faults).into())
+            }
+        }
+    }
+}
