@@ -1,0 +1,5 @@
+pub mod ClosingLaws
+pub mod RunLaws
+pub mod ServingLaws
+pub mod StoreLaws
+pub mod TalkingLaws

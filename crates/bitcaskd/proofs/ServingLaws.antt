@@ -1,0 +1,123 @@
+-- What serving a request adds to the history.
+use Rattle.std.proofs.Common.{◌≡◌, ◌∙◌, ℕ, ◌+◌, ◌-◌, ◌*◌, ◌<◌, ◌≤◌, List, [], ◌∷◌, ◌++◌, length, Bool, true, false, Option, Some, None, ◌⊎◌, refl, sym, ap, subst, arith, inl, inr, IsTrue}
+use Rattle.std.proofs.lemmas.List.{length-append}
+use Rattle.bk_base.specs.declared.numbers.Moment.{Moment}
+use Rattle.bk_base.specs.declared.numbers.Seq.{Seq}
+use Rattle.bk_base.specs.declared.calls.Call.TheVariants.{Get as get_call, Put as put_call, Quiet}
+use Rattle.bk_base.specs.declared.calls.Answer.{Answer}
+use Rattle.bk_base.specs.declared.calls.Answer.TheVariants.{Nothing, Found, Numbered as numbered_answer, Done}
+use Rattle.bk_base.specs.declared.calls.Entry.{Entry}
+use Rattle.bk_base.specs.declared.histories.Glance.{Glance}
+use Rattle.bk_base.specs.declared.histories.Step.{Step}
+use Rattle.bk_base.specs.declared.requests.Request.{Request}
+use Rattle.bk_base.specs.declared.requests.Request.TheVariants.{Get, Put}
+use Rattle.bk_base.specs.declared.requests.Reply.{Reply}
+use Rattle.bk_base.specs.declared.requests.Reply.TheVariants.{Numbered}
+use Rattle.bk_base.specs.declared.writes.Write.{Write}
+use Rattle.bk_disk.specs.Streams.{first_moment, later_moments}
+use Rattle.bk_disk.specs.Told.{Told}
+use Rattle.bk_laws.specs.Log.{live, next_seq}
+use Rattle.bk_laws.specs.History.{IsReply, after}
+use Rattle.bk_laws.specs.Session.{ShowsGet, Serves, call_of, named}
+use Rattle.bk_laws.specs.Wire.{request_text}
+use Rattle.bitcaskd.specs.declared.index.Index.{Index}
+use Rattle.bitcaskd.specs.Counts.{Counted, Counts}
+use Rattle.bitcaskd.specs.Serving.{Site, plain, Leads, GoesOn, Leaves, CountsOn, Served, Refused}
+use Rattle.bitcaskd.specs.Store.{Holds, IsImageOf, PutDone, PutRefused, GetDone, put_of}
+use Rattle.bitcaskd.proofs.StoreLaws.{kept, image_of}
+
+-- the first path keeps no rows and no merges: its glances are empty
+pub no_glance : Glance
+no_glance = record { rows = []; written = []; job = None; last_file = record { 0 = 0 } }
+
+abbrev pub step_of : Entry → ℕ → ℕ → Step
+step_of entry faults views = record { entry = entry; faults = faults; views = views; outs = 0; at = None; glance = no_glance; clean = false }
+
+abbrev pub answer_of : Option (List ℕ) → Answer
+answer_of None = Nothing
+answer_of (Some value) = Found value
+
+-- a count that didn't fall rose by the difference
+pub rise : (before now : ℕ) → before ≤ now → Counted before (now - before) now
+rise before now later = inl (omega arith)
+
+get-leads : (log : List Write) (key : List ℕ) (now : Moment) (found : Option (List ℕ)) (faults views : ℕ) → found ≡ live log key now.0 0
+    → Leads log (step_of (record { caller = 0; call = get_call key now; reply = answer_of found }) faults views) log
+get-leads log key now None faults views is = record { legal = sym is; state = refl }
+get-leads log key now (Some value) faults views is = record { legal = sym is; state = refl }
+
+pub get-served : (dt ct : Bool) (key : List ℕ) (now : Moment) (found : Option (List ℕ)) (reply : Reply) (old new : Site)
+    → ShowsGet (answer_of found) reply
+    → (IsTrue ct → now ≡ first_moment old.moments) → (IsTrue ct → new.moments ≡ later_moments old.moments)
+    → new.index ≡ old.index → (IsTrue dt → new.told.image ≡ old.told.image) → (IsTrue dt → new.told.fronts ≡ old.told.fronts)
+    → (IsTrue dt → GetDone old.told old.index key found)
+    → old.faults ≤ new.faults → Counts old.views new.views
+    → Served dt ct (Get key) reply old new
+get-served dt ct key now found reply old new shows first later index image fronts done faults views = record {
+  now = now;
+  step = step_of (record { caller = 0; call = get_call key now; reply = answer_of found }) (new.faults - old.faults) views.0;
+  serves = (refl, shows);
+  ticks = λ tells. (first tells, later tells);
+  goes = λ tells log h. (
+    log,
+    get-leads log key now found (new.faults - old.faults) views.0 (done tells log now.0 h),
+    kept old.told new.told old.index new.index log h index (image tells) (fronts tells),
+  );
+  counts = record { faults = rise old.faults new.faults faults; views = views.1 };
+}
+
+pub put-served : (dt ct : Bool) (key value : List ℕ) (seq : Seq) (now : Moment) (old new : Site)
+    → (IsTrue ct → now ≡ first_moment old.moments) → (IsTrue ct → new.moments ≡ later_moments old.moments)
+    → (IsTrue dt → PutDone old.told old.index new.told new.index (put_of seq now key value))
+    → old.faults ≤ new.faults → new.views ≡ old.views
+    → Served dt ct (Put key value) (Numbered seq) old new
+put-served dt ct key value seq now old new first later done faults views = record {
+  now = now;
+  step = step_of (record { caller = 0; call = put_call key value now; reply = numbered_answer seq }) (new.faults - old.faults) 0;
+  serves = (refl, refl);
+  ticks = λ tells. (first tells, later tells);
+  goes = λ tells log h. (log ++ put_of seq now key value ∷ [], record { legal = (done tells log h).0; state = refl }, (done tells log h).1);
+  counts = record { faults = rise old.faults new.faults faults; views = inl (omega (arith, views)) };
+}
+
+-- a call that was refused adds a step that says nothing
+pub refused : (dt ct : Bool) (request : Request) (now : Moment) (old new : Site)
+    → (IsTrue ct → now ≡ first_moment old.moments) → (IsTrue ct → new.moments ≡ later_moments old.moments)
+    → (IsTrue dt → (log : List Write) → Holds old.told old.index log → (tried : List Write) × (length tried ≤ 1) × IsImageOf new.told.image log tried)
+    → old.faults ≤ new.faults → Counts old.views new.views
+    → Refused dt ct request old new
+refused dt ct request now old new first later left faults views = record {
+  now = now;
+  step = step_of (record { caller = 0; call = Quiet; reply = Done }) (new.faults - old.faults) views.0;
+  made = inl refl;
+  ticks = λ tells. (first tells, later tells);
+  leaves = λ tells log h. let (tried, few, image) = left tells log h in
+      (log, tried, record { legal = tt; state = refl }, few, image);
+  counts = record { faults = rise old.faults new.faults faults; views = views.1 };
+}
+
+-- a call that was made and whose reply found no memory
+one_call : (request : Request) (now : Moment) (reply : Reply) (es : List Entry) → Serves request now es (reply ∷ [])
+    → (e : Entry) × (es ≡ e ∷ []) × (e.call ≡ call_of request now)
+one_call (Get key) now reply (e ∷ []) serves = (e, refl, serves.0)
+one_call (Get key) now reply [] serves = absurd serves
+one_call (Get key) now reply (e ∷ f ∷ es) serves = absurd serves
+one_call (Put key value) now reply (e ∷ []) serves = (e, refl, serves.0)
+one_call (Put key value) now reply [] serves = absurd serves
+one_call (Put key value) now reply (e ∷ f ∷ es) serves = absurd serves
+
+pub cut_off : (dt ct : Bool) (request : Request) (reply : Reply) (old new : Site) → Served dt ct request reply old new → Refused dt ct request old new
+cut_off dt ct request reply old new s = record {
+  now = s.now;
+  step = s.step;
+  made = inr (one_call request s.now reply (named 0 (s.step ∷ [])) s.serves);
+  ticks = s.ticks;
+  leaves = λ tells log h. let (later, leads, holds) = s.goes tells log h in
+      (later, [], leads, omega arith, image_of new.told new.index later [] holds);
+  counts = s.counts;
+}
+
+-- the record of a put is no longer than 23 times its request
+pub put-small : (key value : List ℕ) → 22 + length key + length value ≤ 23 * length (request_text (Put key value))
+unfolding request_text
+put-small key value = simp length-append (omega arith)

@@ -1,0 +1,14 @@
+use Rattle.std.proofs.Common.{◌≡◌, ◌+◌, ◌-◌, ◌≤◌, length, take, drop, IsTrue}
+use Rattle.bitcaskd.proofs.store.fill.Given as goal
+
+abbrev pub invariant-loop-at : goal.invariant-loop-at
+invariant-loop-at g l = record {
+  within : l.at ≤ length l.into;
+  rest : l.at + g.V.View.rest l.view ≡ length l.into;
+  bytes : IsTrue g.V.View.tells → take l.at l.into ≡ take l.at (g.V.View.left l.initial.view);
+  left : IsTrue g.V.View.tells → g.V.View.left l.view ≡ drop l.at (g.V.View.left l.initial.view);
+  weak : g.V.View.weak l.view ≡ g.V.View.weak l.initial.view;
+}
+
+abbrev pub decreases-loop-at : goal.decreases-loop-at
+decreases-loop-at g l = length l.into - l.at

@@ -1,0 +1,10 @@
+pub mod Closing
+pub mod Counts
+pub mod Found
+pub mod Index
+pub mod Output
+pub mod Refusal
+pub mod Run
+pub mod Serving
+pub mod Store
+pub mod Talking

@@ -1,0 +1,198 @@
+-- How far a run has come between two requests, and where it ended.
+use Rattle.std.specs.Prelude.{◌≡◌, ◌⊎◌, ℕ, ◌+◌, ◌-◌, ◌*◌, ◌<◌, ◌≤◌, List, [], ◌∷◌, ◌++◌, Bool, true, false, Option, None, Some, IsTrue, length, drop}
+use Rattle.std.specs.List.{AllByRecursion}
+use Rattle.bk_base.specs.declared.numbers.Moment.{Moment}
+use Rattle.bk_base.specs.declared.histories.Step.{Step}
+use Rattle.bk_base.specs.declared.requests.Request.{Request}
+use Rattle.bk_base.specs.declared.statuses.Status.{Status}
+use Rattle.bk_base.specs.declared.statuses.Status.TheVariants.{Done, Memory, Disk, Source, Sink, Long, NotBuilt}
+use Rattle.bk_base.specs.declared.writes.Write.{Write}
+use Rattle.bk_disk.specs.Causes.{Rose}
+use Rattle.bk_disk.specs.Told.{Told}
+use Rattle.bk_laws.specs.History.{IsLegal, state_of, entries}
+use Rattle.bk_laws.specs.Session.{Turn, IsTurn, Talk, IsTalk, all_turns, requests_of, replies_of, steps_of, moments_of}
+use Rattle.bk_laws.specs.Wire.{StandsIn}
+use Rattle.bk_wire.specs.Stream.{Stream, taken}
+use Rattle.bitcaskd.specs.Counts.{Counted}
+use Rattle.bitcaskd.specs.Output.{Wrote, LeftOver}
+use Rattle.bitcaskd.specs.Run.{Telling, telling, Outside, Reads, Writes, TakesMost, most_taken, faults_in, views_in}
+use Rattle.bitcaskd.specs.Serving.{Site, Ticks, plain}
+use Rattle.bitcaskd.specs.Store.{Holds, IsImageOf}
+use Rattle.bitcaskd.specs.declared.index.Index.{Index}
+use Rattle.bitcaskd.specs.declared.input.Input.{Input}
+use Rattle.bitcaskd.specs.declared.refusals.Refusal.{Refusal}
+use Rattle.bitcaskd.specs.declared.refusals.Refusal.TheVariants.{Memory as refused_memory, Disk as refused_disk}
+use Rattle.bitcaskd.specs.declared.input.Input.TheVariants.{Taken, Ended, Long as took_most, Failed, Memory as no_memory}
+
+-- what the objects show inside a run: the store's site, and the streams
+pub record Scene : Type 0 where
+  pub site : Site
+  pub whole : List ℕ
+  pub taken : ℕ
+  pub written : List ℕ
+  pub sink_faults : ℕ
+
+-- the same, without what the store keeps in memory
+abbrev pub outside_of : Scene → Outside
+outside_of s = record {
+  told = s.site.told;
+  faults = s.site.faults;
+  views = s.site.views;
+  whole = s.whole;
+  taken = s.taken;
+  written = s.written;
+  sink_faults = s.sink_faults;
+  moments = s.site.moments;
+}
+
+-- the steps are legal from the empty log, and lead to this one
+pub record LeadTo (steps : List Step) (log : List Write) : Type 0 where
+  pub legal : IsLegal 0 (plain []) (entries steps)
+  pub state : state_of (plain []) (entries steps) ≡ plain log
+
+-- the store stands for the log of the steps
+abbrev pub StandsAfter : Site → List Step → Type 0
+StandsAfter site steps = (log : List Write) × LeadTo steps log × Holds site.told site.index log
+
+-- the files hold the log of the steps, and a first part of what was tried
+abbrev pub LeftAfter : Site → List Step → Type 0
+LeftAfter site steps = (log tried : List Write) × LeadTo steps log × (length tried ≤ 1) × IsImageOf site.told.image log tried
+
+-- the counts of faults and of weak views went on over the steps
+pub record CountedOver (old new : Site) (steps : List Step) : Type 0 where
+  pub faults : Counted old.faults (faults_in steps) new.faults
+  pub views : Counted old.views (views_in steps) new.views
+
+-- Between two requests: these turns were served, the reader holds what was taken behind their
+-- requests, and what was written and gathered are their replies.
+pub record SoFar (tells : Telling) (start now : Scene) (stream : Stream) (gathered : List ℕ) (served : List Turn) : Type 0 where
+  pub each : AllByRecursion (IsTurn 0) served
+  pub read : IsTrue tells.source → drop start.taken start.whole ≡ (requests_of served ++ stream.rest) ++ drop now.taken now.whole
+  pub taken : IsTrue tells.source → now.taken ≡ start.taken + taken stream
+  pub made : IsTrue tells.sink → (out : List ℕ) × (now.written ≡ start.written ++ out) × (out ++ gathered ≡ replies_of served)
+  pub ticks : IsTrue tells.clock → Ticks (moments_of served) start.site.moments now.site.moments
+  pub stands : IsTrue tells.disk → StandsAfter now.site (steps_of served)
+  pub counts : CountedOver start.site now.site (steps_of served)
+  pub sink : start.sink_faults ≤ now.sink_faults
+
+-- what the store is left with: it can be synced only where it stands for its log
+abbrev pub EndsAt : Status → Site → List Step → Type 0
+EndsAt Done site steps = StandsAfter site steps
+EndsAt NotBuilt site steps = StandsAfter site steps
+EndsAt status site steps = LeftAfter site steps
+
+-- The run ended before its last sync.
+pub record Stopped (tells : Telling) (start now : Scene) (status : Status) : Type 0 where
+  pub talk : Talk
+  pub said : IsTalk 0 talk
+  pub reads : IsTrue tells.source → Reads status (drop start.taken start.whole) talk
+  pub writes : IsTrue tells.sink → (out : List ℕ) × (now.written ≡ start.written ++ out) × Writes status start.sink_faults now.sink_faults out (replies_of talk.served)
+  pub ticks : IsTrue tells.clock → Ticks (moments_of (all_turns talk)) start.site.moments now.site.moments
+  pub most : TakesMost status tells.source start.taken now.taken
+  pub ends : IsTrue tells.disk → EndsAt status now.site (steps_of (all_turns talk))
+  pub counts : CountedOver start.site now.site (steps_of (all_turns talk))
+
+-- what is left to be read falls with each turn
+abbrev pub work_left : Stream → ℕ
+work_left stream = 2 * (most_taken - stream.offset) - length stream.rest
+
+-- a source and a reader, before and after the next piece was asked for
+pub record Inlet : Type 0 where
+  pub whole : List ℕ
+  pub taken : ℕ
+  pub faults : ℕ
+  pub stream : Stream
+
+-- the piece that was taken
+pub record TakesPiece (tells : Bool) (old new : Inlet) (piece : List ℕ) : Type 0 where
+  pub some : 0 < length piece
+  pub offset : new.stream.offset ≡ old.stream.offset
+  pub most : new.stream.most ≡ old.stream.most
+  pub rest : new.stream.rest ≡ old.stream.rest ++ piece
+  pub bytes : IsTrue tells → drop old.taken old.whole ≡ piece ++ drop new.taken new.whole
+  pub moved : IsTrue tells → new.taken ≡ old.taken + length piece
+
+-- What asking for the next piece may give.
+abbrev pub Gives : Input → Bool → Inlet → Inlet → Type 0
+Gives Taken tells old new = (piece : List ℕ) × TakesPiece tells old new piece
+Gives Ended tells old new =
+    (new.stream ≡ old.stream) × (taken old.stream < most_taken) × (IsTrue tells → (drop old.taken old.whole ≡ []) × (new.taken ≡ old.taken))
+Gives took_most tells old new = (new.stream ≡ old.stream) × (taken old.stream ≡ most_taken) × (IsTrue tells → new.taken ≡ old.taken)
+Gives Failed tells old new = (new.stream ≡ old.stream) × Rose old.faults new.faults
+Gives no_memory tells old new = new.stream ≡ old.stream
+
+-- a site and a scene from what the objects show
+abbrev pub site_of : Told → Index → ℕ → ℕ → List Moment → Site
+site_of told index faults views moments = record { told = told; index = index; faults = faults; views = views; moments = moments }
+
+abbrev pub scene_of : Site → List ℕ → ℕ → List ℕ → ℕ → Scene
+scene_of site whole taken written sink_faults = record { site = site; whole = whole; taken = taken; written = written; sink_faults = sink_faults }
+
+-- wherever the run had come from, it has come further
+abbrev pub ComesOn : Telling → Scene → Stream → List ℕ → Scene → Stream → List ℕ → Type 0
+ComesOn tells old stream gathered new later more =
+    (start : Scene) (served : List Turn) → SoFar tells start old stream gathered served
+    → (turns : List Turn) × SoFar tells start new later more turns
+
+-- wherever the run had come from, it has ended so
+abbrev pub ComesToEnd : Telling → Scene → Stream → List ℕ → Scene → Status → Type 0
+ComesToEnd tells old stream gathered new status =
+    (start : Scene) (served : List Turn) → SoFar tells start old stream gathered served → Stopped tells start new status
+
+-- How a turn of the run went: it goes on, or it has ended with a status.
+abbrev pub Turns : Option Status → Telling → Scene → Stream → List ℕ → Scene → Stream → List ℕ → Type 0
+Turns None tells old stream gathered new later more = ComesOn tells old stream gathered new later more
+Turns (Some status) tells old stream gathered new later more = ComesToEnd tells old stream gathered new status
+
+-- what asking for one request does, whatever the stream was that it was read from
+abbrev pub Asks : Option Status → Bool → Bool → Bool → Request → Site → List ℕ → ℕ → List ℕ → Site → List ℕ → ℕ → List ℕ → Type 0
+Asks result disk_tells sink_tells clock_tells request old written faults gathered new written_later faults_later gathered_later =
+    (source_tells : Bool) (whole : List ℕ) (took : ℕ) (before after : Stream) → StandsIn before.rest request after.rest → taken before ≡ taken after
+    → Turns result (telling disk_tells source_tells sink_tells clock_tells)
+    (scene_of old whole took written faults) before gathered (scene_of new whole took written_later faults_later) after gathered_later
+
+-- a first part of what was gathered went to the sink
+abbrev pub MovesOut : Bool → List ℕ → List ℕ → List ℕ → List ℕ → Type 0
+MovesOut tells before gathered now left = IsTrue tells → (part : List ℕ) × (now ≡ before ++ part) × (gathered ≡ part ++ left)
+
+-- the sink failed and took a first part of what was gathered
+abbrev pub FailsOut : Bool → List ℕ → List ℕ → List ℕ → ℕ → ℕ → Type 0
+FailsOut tells before gathered now faults_before faults_now = (IsTrue tells → LeftOver before now gathered) × Rose faults_before faults_now
+
+-- the run goes on with what is left, or ends by its sink
+abbrev pub WritesSome : Option Status → Bool → List ℕ → ℕ → List ℕ → List ℕ → ℕ → List ℕ → Type 0
+WritesSome None tells before faults_before gathered now faults_now left = MovesOut tells before gathered now left
+WritesSome (Some status) tells before faults_before gathered now faults_now left = (status ≡ Sink) × FailsOut tells before gathered now faults_before faults_now
+
+-- the status of a run that ends by a refusal
+abbrev pub status_of : Refusal → Status
+status_of refused_memory = Memory
+status_of refused_disk = Disk
+
+-- the replies were written, or the sink failed and took a first part of them
+abbrev pub Flushed : Bool → List ℕ → List ℕ → List ℕ → ℕ → ℕ → Type 0
+Flushed tells before now replies faults_before faults_now =
+    (IsTrue tells → Wrote before now replies) ⊎ ((IsTrue tells → LeftOver before now replies) × Rose faults_before faults_now)
+
+-- what a run does after it asked for more input
+abbrev pub after_input : Input → Bool → Option Status
+after_input Taken nothing_left = None
+after_input Ended true = Some Done
+after_input Ended false = Some NotBuilt
+after_input took_most nothing_left = Some Long
+after_input Failed nothing_left = Some Source
+after_input no_memory nothing_left = Some Memory
+
+-- how a run ends where no request stands
+abbrev pub StopsAtBad : Option Status → Bool → List ℕ → ℕ → List ℕ → List ℕ → ℕ → Type 0
+StopsAtBad result tells before faults_before gathered now faults_now =
+    ((result ≡ Some NotBuilt) × (IsTrue tells → Wrote before now gathered) × (faults_before ≤ faults_now))
+    ⊎ ((result ≡ Some Sink) × FailsOut tells before gathered now faults_before faults_now × (faults_before ≤ faults_now))
+
+-- the store's numbers are no larger than what was read allows, and there is room for a piece
+pub record IsReady (x : Index) (stream : Stream) (piece : List ℕ) : Type 0 where
+  pub end : x.end ≤ 23 * stream.offset
+  pub last : x.last ≤ stream.offset
+  pub most : stream.most ≡ most_taken
+  pub within : taken stream ≤ most_taken
+  pub some : 0 < length piece

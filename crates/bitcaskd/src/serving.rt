@@ -1,0 +1,84 @@
+//! One request, from the clock and the store to its reply.
+ghost use Rattle.std.specs.Prelude.{◌≡◌, ◌⊎◌, ◌+◌, ◌*◌, ◌^◌, ◌<◌, ◌≤◌, ◌++◌, length, IsTrue, OnOk, IfOk, OnErr, IsErrOf};
+ghost use Rattle.bk_disk.specs.Causes.{Rose};
+ghost use Rattle.bk_laws.specs.Wire.{Fits, request_text, reply_text};
+ghost use Rattle.bitcaskd.specs.Serving.{Answered, Served, Refused};
+ghost use Rattle.bitcaskd.specs.Store.{Stands};
+
+use crate::refusals::Refusal;
+use crate::store::Store;
+use bk_base::{Reply, Request};
+use bk_disk::{Clock, Disk};
+use bk_wire::write_reply;
+use std::alloc::Global;
+
+/// Serves a request: the clock is asked once, and then the store.
+fn serve<D: Disk, C: Clock>(
+    alloc: Global,
+    store: &mut Store<D>,
+    clock: &mut C,
+    request: Request,
+) -> Result<Reply, Refusal>
+    requires stands { IsTrue D.tells → Stands (D.told store.old.disk) store.old.index }
+    requires fits { Fits request }
+    requires file { store.old.index.end + 23 * length (request_text request) < 2 ^ 63 }
+    requires seq { store.old.index.last + length (request_text request) < 2 ^ 63 }
+    ensures end { OnOk result (store.new.index.end ≤ store.old.index.end + 23 * length (request_text request)) }
+    ensures last { OnOk result (store.new.index.last ≤ store.old.index.last + length (request_text request)) }
+    ensures ok { IfOk result (λ reply. Served D.tells C.tells request reply
+        (record { told = D.told store.old.disk; index = store.old.index; faults = D.faults store.old.disk; views = D.weak_views store.old.disk; moments = C.moments clock.old })
+        (record { told = D.told store.new.disk; index = store.new.index; faults = D.faults store.new.disk; views = D.weak_views store.new.disk; moments = C.moments clock.new })) }
+    ensures err { OnErr result (Refused D.tells C.tells request
+        (record { told = D.told store.old.disk; index = store.old.index; faults = D.faults store.old.disk; views = D.weak_views store.old.disk; moments = C.moments clock.old })
+        (record { told = D.told store.new.disk; index = store.new.index; faults = D.faults store.new.disk; views = D.weak_views store.new.disk; moments = C.moments clock.new })) }
+    ensures later { D.faults store.old.disk ≤ D.faults store.new.disk }
+    ensures disk { IsErrOf result Refusal.Disk → Rose (D.faults store.old.disk) (D.faults store.new.disk) ⊎ Rose (D.weak_views store.old.disk) (D.weak_views store.new.disk) }
+{
+    let now = clock.now();
+    match request {
+        Request::Get(key) => match store.get(alloc, &key) {
+            Ok(Some(value)) => Ok(Reply::Value(value)),
+            Ok(None) => Ok(Reply::Absent),
+            Err(refusal) => Err(refusal),
+        },
+        Request::Put(key, value) => match store.put(alloc, key, value, now) {
+            Ok(seq) => Ok(Reply::Numbered(seq)),
+            Err(refusal) => Err(refusal),
+        },
+    }
+}
+
+/// Serves a request and writes its reply at the end of `replies`.
+pub fn answer<D: Disk, C: Clock>(
+    alloc: Global,
+    store: &mut Store<D>,
+    clock: &mut C,
+    replies: &mut Vec<u8>,
+    request: Request,
+) -> Result<(), Refusal>
+    requires stands { IsTrue D.tells → Stands (D.told store.old.disk) store.old.index }
+    requires fits { Fits request }
+    requires file { store.old.index.end + 23 * length (request_text request) < 2 ^ 63 }
+    requires seq { store.old.index.last + length (request_text request) < 2 ^ 63 }
+    ensures end { OnOk result (store.new.index.end ≤ store.old.index.end + 23 * length (request_text request)) }
+    ensures last { OnOk result (store.new.index.last ≤ store.old.index.last + length (request_text request)) }
+    ensures ok { OnOk result (Answered D.tells C.tells request
+        (record { told = D.told store.old.disk; index = store.old.index; faults = D.faults store.old.disk; views = D.weak_views store.old.disk; moments = C.moments clock.old })
+        (record { told = D.told store.new.disk; index = store.new.index; faults = D.faults store.new.disk; views = D.weak_views store.new.disk; moments = C.moments clock.new })
+        replies.old.items replies.new.items) }
+    ensures err { OnErr result (Refused D.tells C.tells request
+        (record { told = D.told store.old.disk; index = store.old.index; faults = D.faults store.old.disk; views = D.weak_views store.old.disk; moments = C.moments clock.old })
+        (record { told = D.told store.new.disk; index = store.new.index; faults = D.faults store.new.disk; views = D.weak_views store.new.disk; moments = C.moments clock.new })) }
+    ensures kept { OnErr result (replies.new.items ≡ replies.old.items) }
+    ensures later { D.faults store.old.disk ≤ D.faults store.new.disk }
+    ensures disk { IsErrOf result Refusal.Disk → Rose (D.faults store.old.disk) (D.faults store.new.disk) ⊎ Rose (D.weak_views store.old.disk) (D.weak_views store.new.disk) }
+{
+    let reply = match serve(alloc, store, clock, request) {
+        Ok(reply) => reply,
+        Err(refusal) => return Err(refusal),
+    };
+    match write_reply(&reply, replies) {
+        Ok(()) => Ok(()),
+        Err(_) => Err(Refusal::Memory),
+    }
+}
