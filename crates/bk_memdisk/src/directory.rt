@@ -127,7 +127,12 @@ impl Directory {
     }
 
     // Puts a synced file there. Its bytes come twice, the second time for the journal.
-    pub(crate) fn place(&mut self, name: Name, bytes: Vec<u8>, copy: Vec<u8>) -> Result<(), AllocError>
+    pub(crate) fn place(
+        &mut self,
+        name: Name,
+        bytes: Vec<u8>,
+        copy: Vec<u8>,
+    ) -> Result<(), AllocError>
         requires { copy.items ≡ bytes.items }
         ensures ok { OnOk result (Placed name bytes.items self.old.told self.new.told) }
         ensures err { OnErr result (self.new ≡ self.old) }
@@ -179,7 +184,13 @@ impl Directory {
     }
 
     // The bytes of a range, and the view is told; where it asks past the end, that is told.
-    pub(crate) fn view(&mut self, name: Name, at: u64, len: u64, fails: bool) -> Result<Vec<u8>, DiskError>
+    pub(crate) fn view(
+        &mut self,
+        name: Name,
+        at: u64,
+        len: u64,
+        fails: bool,
+    ) -> Result<Vec<u8>, DiskError>
         ensures within { OnOk result (IsWithin name at len self.old.told.image) }
         ensures bytes { IfOk result (λ bytes. bytes.items ≡ range_of name at len self.old.told.image) }
         ensures told { self.new.told ≡ viewed (is_ok result) name at len self.old.told }

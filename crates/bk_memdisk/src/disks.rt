@@ -110,24 +110,11 @@ fn fault(faults: &mut u64) -> Failed
     Failed
 }
 
-#[tactic(
-    auto,
-    using(
-        bk_disk::proofs::Still::still_appended,
-        bk_disk::proofs::Still::still_synced,
-        bk_disk::proofs::Still::still_cut,
-        bk_disk::proofs::Still::still_made,
-        bk_disk::proofs::Still::still_removed,
-        bk_disk::proofs::Still::still_renamed,
-        bk_disk::proofs::Still::still_returned,
-        bk_disk::proofs::Still::still_viewed,
-        bk_disk::proofs::Still::still_same
-    )
-)]
+#[tactic(auto, using(bk_disk::proofs::Still::still_appended, bk_disk::proofs::Still::still_synced, bk_disk::proofs::Still::still_cut, bk_disk::proofs::Still::still_made, bk_disk::proofs::Still::still_removed, bk_disk::proofs::Still::still_renamed, bk_disk::proofs::Still::still_returned, bk_disk::proofs::Still::still_viewed, bk_disk::proofs::Still::still_same))]
 impl Disk for MemDisk {
     ghost use Rattle.std.specs.Prelude.{true, refl};
     ghost use Rattle.bk_memdisk.specs.Contents.{room_of};
-    ghost use Rattle.bk_disk.proofs.Tests.{from_test};
+    ghost use Rattle.bk_disk.proofs.Unique.{from_test};
 
     type View = MemView;
 

@@ -6,6 +6,6 @@ use Rattle.bk_memdisk.proofs.plans.last_effect.Goals.{then-choice-call, else-cho
 pub loop-choice-preserved : goal.loop-choice-preserved
 loop-choice-preserved c =
     elim c.if-choice-call.branch [
-        then-choice-call w ↦ w.effect-is ∙ sym (effect_of-this _ _ _ _ c.loop-choice-test.true w.if-choice-call.true)
+      | then-choice-call w ↦ w.effect-is ∙ sym (effect_of-this _ _ _ _ c.loop-choice-test.true w.if-choice-call.true)
       | else-choice-call w ↦ w.effect-is ∙ c.loop-choice.invariant ∙ sym (effect_of-other _ _ _ _ c.loop-choice-test.true w.if-choice-call.false)
     ]
