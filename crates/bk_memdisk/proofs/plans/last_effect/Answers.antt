@@ -1,5 +1,5 @@
 use Rattle.std.proofs.Common.{sym, ◌∙◌}
-use Rattle.bk_memdisk.proofs.Choices.{effect_of-this, effect_of-other}
+use Rattle.bk_memdisk.proofs.Effects.{effect_of-this, effect_of-other}
 use Rattle.bk_memdisk.proofs.plans.last_effect.Goals as goal
 use Rattle.bk_memdisk.proofs.plans.last_effect.Goals.{then-choice-call, else-choice-call}
 
