@@ -2,5 +2,5 @@ pub mod Names
 pub mod Tables
 pub mod Files
 pub mod Moments
-pub mod Tests
+pub mod Unique
 pub mod Still

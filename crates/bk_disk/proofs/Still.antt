@@ -1,14 +1,11 @@
 -- Each name still stands once after a call.
-use Rattle.std.proofs.Common.{◌≡◌, ℕ, Bool, true, false, not, ◌&&◌, ◌||◌, IsTrue, List, [], ◌∷◌, refl, sym, ◌∙◌, ap, arith, subst, inl, inr}
-use Rattle.std.proofs.lemmas.Bool.{cases_Bool}
+use Rattle.std.proofs.Common.{◌≡◌, ℕ, Bool, IsTrue, List, sym, subst}
 use Rattle.bk_base.specs.declared.names.Name.{Name}
-use Rattle.bk_disk.specs.Names.{same}
-use Rattle.bk_disk.specs.Told.{Told, names, IsNotIn, IsOnce, IsWell, IsOneThere}
+use Rattle.bk_disk.specs.Told.{Told, IsOneThere}
 use Rattle.bk_disk.specs.Calls.{Appended, Synced, Cut, Made, Removed, Renamed, Returned, viewed}
-use Rattle.bk_disk.proofs.Names.{same_refl, same_eq}
 use Rattle.bk_disk.proofs.Files.{well_appended, well_synced, well_cut, well_made, well_removed, well_renamed, well_returned}
 use Rattle.bk_disk.specs.Well.{is_well}
-use Rattle.bk_disk.proofs.Tests.{from_test, to_test}
+use Rattle.bk_disk.proofs.Unique.{from_test, to_test}
 
 pub still_appended : (n : Name) (count : ℕ) (piece : List ℕ) (old new : Told) → Appended n count piece old new → IsTrue (is_well old) → IsTrue (is_well new)
 still_appended n count piece old new b w = to_test new (well_appended n count piece old new b (from_test old w))

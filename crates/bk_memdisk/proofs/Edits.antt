@@ -1,15 +1,14 @@
 -- A file is edited in its place, and the journal says so by one entry.
-use Rattle.std.proofs.Common.{◌≡◌, ◌==◌, ℕ, ◌+◌, ◌-◌, ◌<◌, ◌≤◌, min, max, Bool, true, false, List, [], ◌∷◌, ◌++◌, length, take, set, get_or, sum_by, refl, sym, ◌∙◌, ap, arith, subst, inl, inr}
-use Rattle.std.specs.declared.option.Option.{Option}
-use Rattle.std.specs.declared.option.Option.TheVariants.{None, Some}
-use Rattle.std.specs.Option.{option_map, is_some, IsSome, IsSomeAnd, IfSome, unwrap_or}
+use Rattle.std.proofs.Common.{◌≡◌, ◌==◌, ℕ, ◌+◌, ◌-◌, ◌<◌, ◌≤◌, max, Bool, true, false, List, [], ◌∷◌, ◌++◌, length, take, set, get_or, sum_by, refl, sym, ◌∙◌, ap, arith, subst, inl, inr}
+use Rattle.std.specs.declared.option.Option.TheVariants.{Some}
+use Rattle.std.specs.Option.{option_map, IsSomeAnd, IfSome, unwrap_or}
 use Rattle.std.proofs.lemmas.Bool.{cases_Bool}
 use Rattle.std.proofs.lemmas.List.{take_all, length-take, set-get_or, append-nil}
 use Rattle.std.proofs.lemmas.List.Sums.{sum_by-set, get_or-le-sum_by}
 use Rattle.bk_base.specs.declared.names.Name.{Name}
 use Rattle.bk_disk.specs.declared.disks.Listed.{Listed}
 use Rattle.bk_disk.specs.Names.{same}
-use Rattle.bk_disk.specs.Told.{Table, Image, Front, Told, at, changed, bytes_of, IsOurs, IsLent, CutsWithin}
+use Rattle.bk_disk.specs.Told.{Table, Front, at, changed, bytes_of}
 use Rattle.bk_disk.specs.Calls.{Becomes, handed_more, all_safe, brought_back}
 use Rattle.bk_disk.proofs.Names.{same_eq}
 use Rattle.bk_disk.proofs.Tables.{at-changed, at-changed_other}
@@ -18,7 +17,7 @@ use Rattle.bk_memdisk.specs.declared.files.MemFile.{MemFile}
 use Rattle.bk_memdisk.specs.Journal.{Kept, after, after_all, fronts_of, handed, synced, returned}
 use Rattle.bk_memdisk.specs.Fits.{IsFirst, Fits, Tied, image_of, rooms_of, owed}
 use Rattle.bk_memdisk.proofs.Entries.{after_all-append, told_of, becomes, becomes_untold, at-fronts_of, fronts-changed}
-use Rattle.bk_memdisk.proofs.Places.{at-first, changed-first, unchanged, tied_first, tied_changed, tied_set, first_below, first_name}
+use Rattle.bk_memdisk.proofs.Places.{at-first, changed-first, unchanged, tied_first, tied_changed, tied_set, first_name}
 
 pub empty_from : (xs : List ℕ) (is : Bool) → is ≡ (length xs == 0) → is ≡ true → xs ≡ []
 empty_from [] is h e = refl
@@ -55,10 +54,10 @@ module _ (name : Name) (files : List MemFile) (t : Table Kept) (i : ℕ) (x : Me
 
   pub safe_is : (len : ℕ) → IfSome (at (fronts_of t) name) (λ f. length f.safe ≤ len) → x.safe ≤ len
   safe_is len h =
-    let k = front_is in
-    let within : length (k.0).front.safe ≤ len = subst (λ o. IfSome o (λ f. length f.safe ≤ len)) k.1 h in
-    let safe : length (k.0).front.safe ≡ x.safe = ap length k.2.safe ∙ length-take x.safe x.bytes.items ∙ (let le = k.2.synced in omega arith) in
-    omega (arith, within, safe)
+      let k = front_is in
+      let within : length (k.0).front.safe ≤ len = subst (λ o. IfSome o (λ f. length f.safe ≤ len)) k.1 h in
+      let safe : length (k.0).front.safe ≡ x.safe = ap length k.2.safe ∙ length-take x.safe x.bytes.items ∙ (let le = k.2.synced in omega arith) in
+      omega (arith, within, safe)
 
 -- The entries of the journal that are reserved
 
@@ -69,10 +68,10 @@ module _ (files : List MemFile) (i : ℕ) (x : MemFile) (below : i < length file
   -- the file is another now
   pub owed_set : (g : MemFile) (reserved : ℕ) → reserved ≡ sum_by owed files → (reserved - owed x) + owed g ≡ sum_by owed (set files i g)
   owed_set g reserved all =
-    let sums : sum_by owed (set files i g) + owed (get_or files i x) ≡ sum_by owed files + owed g = sum_by-set owed files i g x below in
-    let this : owed (get_or files i x) ≡ owed x = ap owed (sym is) in
-    let within = owed_within in
-    omega (arith, sums, this, within, all)
+      let sums : sum_by owed (set files i g) + owed (get_or files i x) ≡ sum_by owed files + owed g = sum_by-set owed files i g x below in
+      let this : owed (get_or files i x) ≡ owed x = ap owed (sym is) in
+      let within = owed_within in
+      omega (arith, sums, this, within, all)
 
   pub same_owed : (g : MemFile) (reserved : ℕ) → owed g ≡ owed x → reserved ≡ sum_by owed files → reserved ≡ sum_by owed (set files i g)
   same_owed g reserved same_count all = let sums = owed_set g reserved all in let within = owed_within in omega (arith, sums, within, same_count, all)
@@ -83,7 +82,7 @@ module _ (files : List MemFile) (i : ℕ) (x : MemFile) (below : i < length file
   -- the journal's word stays
   pub set_tied : (g : MemFile) (t : Table Kept) → Tied files t → g.name ≡ x.name → ((k : Kept) → Fits x k → Fits g k) → Tied (set files i g) t
   set_tied g t tied same_name fits =
-    tied_set files t i x g tied below (same_name ∙ ap (λ (f : MemFile). f.name) is) (λ k h. fits k (subst (λ y. Fits y k) (sym is) h))
+      tied_set files t i x g tied below (same_name ∙ ap (λ (f : MemFile). f.name) is) (λ k h. fits k (subst (λ y. Fits y k) (sym is) h))
 
   pub set_image : (g : MemFile) → g.name ≡ x.name → g.bytes.items ≡ x.bytes.items → image_of (set files i g) ≡ image_of files
   set_image g same_name bytes = unchanged (λ f. f.bytes.items) files i x g below (same_name ∙ ap (λ (f : MemFile). f.name) is) (bytes ∙ ap (λ (f : MemFile). f.bytes.items) is)
@@ -100,52 +99,51 @@ owed_more x g others = rw (others.0, others.1) (grind arith)
 -- An edit of the file with an entry of the journal
 
 module _ (name : Name) (files : List MemFile) (cs ds : List Change) (i : ℕ) (x g : MemFile) (c : Change) (step : Kept → Kept)
-  (tied : Tied files (after_all [] cs)) (first : IsFirst name files i) (is : x ≡ get_or files i x)
-  (more : ds ≡ cs ++ c ∷ []) (same_name : g.name ≡ x.name) (fits : (k : Kept) → Fits x k → Fits g (step k)) (change : after (after_all [] cs) c ≡ changed x.name step (after_all [] cs)) where
-
+    (tied : Tied files (after_all [] cs)) (first : IsFirst name files i) (is : x ≡ get_or files i x)
+    (more : ds ≡ cs ++ c ∷ []) (same_name : g.name ≡ x.name) (fits : (k : Kept) → Fits x k → Fits g (step k)) (change : after (after_all [] cs) c ≡ changed x.name step (after_all [] cs)) where
   after_is : after (after_all [] cs) c ≡ changed name step (after_all [] cs)
   after_is = change ∙ ap (λ n. changed n step (after_all [] cs)) (name_is name files (after_all [] cs) i x tied first is)
 
   pub edited_tied : Tied (set files i g) (after_all [] ds)
   edited_tied =
-    let edited : Tied (set files i g) (changed name step (after_all [] cs)) =
-        tied_changed name files (after_all [] cs) i x g step tied first (same_name ∙ ap (λ (f : MemFile). f.name) is) (λ k h. fits k (subst (λ y. Fits y k) (sym is) h))
-    in subst (Tied (set files i g)) (sym (ap (after_all []) more ∙ after_all-append [] cs c ∙ after_is)) edited
+      let edited : Tied (set files i g) (changed name step (after_all [] cs)) =
+      tied_changed name files (after_all [] cs) i x g step tied first (same_name ∙ ap (λ (f : MemFile). f.name) is) (λ k h. fits k (subst (λ y. Fits y k) (sym is) h))
+      in subst (Tied (set files i g)) (sym (ap (after_all []) more ∙ after_all-append [] cs c ∙ after_is)) edited
 
   pub edited_told : (edit : List ℕ → List ℕ) (front_step : Front → Front) (asked : List Listed) (astray : ℕ)
-    → g.bytes.items ≡ edit x.bytes.items → ((k : Kept) → Fits x k → (step k).front ≡ front_step k.front)
-    → Becomes (changed name edit) (changed name front_step) (told_of (image_of files) cs asked astray) (told_of (image_of (set files i g)) ds asked astray)
+      → g.bytes.items ≡ edit x.bytes.items → ((k : Kept) → Fits x k → (step k).front ≡ front_step k.front)
+      → Becomes (changed name edit) (changed name front_step) (told_of (image_of files) cs asked astray) (told_of (image_of (set files i g)) ds asked astray)
   edited_told edit front_step asked astray bytes fronts =
-    let there = known name files (after_all [] cs) i x tied first is in
-    becomes (changed name edit) (changed name front_step) (image_of files) (image_of (set files i g)) cs ds c asked astray more
-    (changed-first (λ f. f.bytes.items) name files i x g edit first (same_name ∙ ap (λ (f : MemFile). f.name) is) (bytes ∙ ap (λ (f : MemFile). edit f.bytes.items) is))
-    (ap fronts_of after_is ∙ fronts-changed name step front_step (after_all [] cs) (λ k found. fronts k (let same_word : there.0 ≡ k = cc (there.1, found) in subst (λ y. Fits x y) same_word there.2)))
+      let there = known name files (after_all [] cs) i x tied first is in
+      becomes (changed name edit) (changed name front_step) (image_of files) (image_of (set files i g)) cs ds c asked astray more
+      (changed-first (λ f. f.bytes.items) name files i x g edit first (same_name ∙ ap (λ (f : MemFile). f.name) is) (bytes ∙ ap (λ (f : MemFile). edit f.bytes.items) is))
+      (ap fronts_of after_is ∙ fronts-changed name step front_step (after_all [] cs) (λ k found. fronts k (let same_word : there.0 ≡ k = cc (there.1, found) in subst (λ y. Fits x y) same_word there.2)))
 
 -- The rooms after an edit
 
 module _ (name : Name) (files : List MemFile) (i : ℕ) (x g : MemFile) (first : IsFirst name files i) (is : x ≡ get_or files i x) (same_name : g.name ≡ x.name) where
   pub other_rooms : (n : Name) → same n name ≡ false → unwrap_or (at (rooms_of (set files i g)) n) 0 ≡ unwrap_or (at (rooms_of files) n) 0
   other_rooms n other =
-    ap (λ t. unwrap_or (at t n) 0) (changed-first (λ f. f.room) name files i x g (λ _. g.room) first (same_name ∙ ap (λ (f : MemFile). f.name) is) refl)
-    ∙ ap (λ o. unwrap_or o 0) (at-changed_other name n (λ _. g.room) (rooms_of files) other)
+      ap (λ t. unwrap_or (at t n) 0) (changed-first (λ f. f.room) name files i x g (λ _. g.room) first (same_name ∙ ap (λ (f : MemFile). f.name) is) refl)
+      ∙ ap (λ o. unwrap_or o 0) (at-changed_other name n (λ _. g.room) (rooms_of files) other)
 
   pub this_room : unwrap_or (at (rooms_of (set files i g)) name) 0 ≡ g.room
   this_room =
-    ap (λ t. unwrap_or (at t name) 0) (changed-first (λ f. f.room) name files i x g (λ _. g.room) first (same_name ∙ ap (λ (f : MemFile). f.name) is) refl)
-    ∙ ap (λ o. unwrap_or o 0) (at-changed name (λ _. g.room) (rooms_of files) ∙ ap (option_map (λ (r : ℕ). g.room)) (at-first (λ f. f.room) name files i x first))
+      ap (λ t. unwrap_or (at t name) 0) (changed-first (λ f. f.room) name files i x g (λ _. g.room) first (same_name ∙ ap (λ (f : MemFile). f.name) is) refl)
+      ∙ ap (λ o. unwrap_or o 0) (at-changed name (λ _. g.room) (rooms_of files) ∙ ap (option_map (λ (r : ℕ). g.room)) (at-first (λ f. f.room) name files i x first))
 
   -- no room falls
   pub keeps_rooms : x.room ≤ g.room → (n : Name) → unwrap_or (at (rooms_of files) n) 0 ≤ unwrap_or (at (rooms_of (set files i g)) n) 0
   keeps_rooms more n =
-    elim (cases_Bool (same n name)) [
-        inl p ↦
-        let here : n ≡ name = same_eq n name p in
-        let old : unwrap_or (at (rooms_of files) name) 0 ≡ x.room =
+      elim (cases_Bool (same n name)) [
+        | inl p ↦
+            let here : n ≡ name = same_eq n name p in
+            let old : unwrap_or (at (rooms_of files) name) 0 ≡ x.room =
             ap (λ o. unwrap_or o 0) (at-first (λ f. f.room) name files i x first ∙ ap (λ (f : MemFile). Some f.room) (sym is)) in
-        let new = this_room in
-        subst (λ m. unwrap_or (at (rooms_of files) m) 0 ≤ unwrap_or (at (rooms_of (set files i g)) m) 0) (sym here) (omega (arith, old, new, more))
-      | inr p ↦ let others = other_rooms n p in omega (arith, others)
-    ]
+            let new = this_room in
+            subst (λ m. unwrap_or (at (rooms_of files) m) 0 ≤ unwrap_or (at (rooms_of (set files i g)) m) 0) (sym here) (omega (arith, old, new, more))
+        | inr p ↦ let others = other_rooms n p in omega (arith, others)
+      ]
 
 -- The calls
 
@@ -154,7 +152,7 @@ changed_fixed : {X : Type 0} (n : Name) (f : X → X) (t : Table X) → ((v : X)
 changed_fixed n f [] h = refl
 changed_fixed n f (e ∷ es) h =
     elim (cases_Bool (same n e.0)) [
-        inl p ↦ rw p (ap (λ v. (e.0, v) ∷ es) (h e.1 (rw p refl)))
+      | inl p ↦ rw p (ap (λ v. (e.0, v) ∷ es) (h e.1 (rw p refl)))
       | inr p ↦ rw p (ap (λ t. e ∷ t) (changed_fixed n f es (λ v is. h v (rw p is))))
     ]
 
@@ -162,69 +160,68 @@ pub set_same : (files : List MemFile) (i : ℕ) (x : MemFile) → x ≡ get_or f
 set_same files i x is = ap (set files i) is ∙ set-get_or files i x
 
 module _ (name : Name) (files : List MemFile) (cs : List Change) (i : ℕ) (x : MemFile) (tied : Tied files (after_all [] cs)) (first : IsFirst name files i) (is : x ≡ get_or files i x) (asked : List Listed) (astray : ℕ) where
-
   word_of : (front : Front) → at (fronts_of (after_all [] cs)) name ≡ Some front → (k : Kept) × (k.front ≡ front) × Fits x k
   word_of front found =
-    let there = front_is name files (after_all [] cs) i x tied first is in
-    let word : (there.0).front ≡ front = cc (there.1, found) in
-    (there.0, word, there.2)
+      let there = front_is name files (after_all [] cs) i x tied first is in
+      let word : (there.0).front ≡ front = cc (there.1, found) in
+      (there.0, word, there.2)
 
   -- no byte is appended
   pub appended_nothing : (through : ℕ) → Becomes (changed name (λ b. b ++ take through [])) (changed name (handed_more (length (bytes_of name (image_of files) ++ take through [])) [])) (told_of (image_of files) cs asked astray) (told_of (image_of files) cs asked astray)
   appended_nothing through =
-    let none : take {A = ℕ} through [] ≡ [] = take_all through [] (omega arith) in
-    let kept_bytes : changed name (λ b. b ++ take through []) (image_of files) ≡ image_of files =
-        changed_fixed name (λ b. b ++ take through []) (image_of files) (λ b found. ap (λ more. b ++ more) none ∙ append-nil b) in
-    let same_len : length (bytes_of name (image_of files) ++ take through []) ≡ length x.bytes.items =
-        ap length (ap (λ more. bytes_of name (image_of files) ++ more) none ∙ append-nil (bytes_of name (image_of files)) ∙ bytes_is name files (after_all [] cs) i x tied first is) in
-    becomes_untold (changed name (λ b. b ++ take through [])) (changed name (handed_more (length (bytes_of name (image_of files) ++ take through [])) [])) (image_of files) (image_of files) cs asked astray
-    (sym kept_bytes)
-    (sym (changed_fixed name (handed_more (length (bytes_of name (image_of files) ++ take through [])) []) (fronts_of (after_all [] cs))
+      let none : take {A = ℕ} through [] ≡ [] = take_all through [] (omega arith) in
+      let kept_bytes : changed name (λ b. b ++ take through []) (image_of files) ≡ image_of files =
+      changed_fixed name (λ b. b ++ take through []) (image_of files) (λ b found. ap (λ more. b ++ more) none ∙ append-nil b) in
+      let same_len : length (bytes_of name (image_of files) ++ take through []) ≡ length x.bytes.items =
+      ap length (ap (λ more. bytes_of name (image_of files) ++ more) none ∙ append-nil (bytes_of name (image_of files)) ∙ bytes_is name files (after_all [] cs) i x tied first is) in
+      becomes_untold (changed name (λ b. b ++ take through [])) (changed name (handed_more (length (bytes_of name (image_of files) ++ take through [])) [])) (image_of files) (image_of files) cs asked astray
+      (sym kept_bytes)
+      (sym (changed_fixed name (handed_more (length (bytes_of name (image_of files) ++ take through [])) []) (fronts_of (after_all [] cs))
       (λ front found.
-        let k = word_of front found in
-        let reached : length x.bytes.items ≤ front.reach = subst (λ (f : Front). length x.bytes.items ≤ f.reach) k.1 k.2.reach in
-        let reach : max front.reach (length (bytes_of name (image_of files) ++ take through [])) ≡ front.reach = omega (arith, same_len, reached) in
-        ap (λ r. record { safe = front.safe; reach = r; handed = front.handed ++ []; lent = front.lent }) reach
-        ∙ ap (λ h. record { safe = front.safe; reach = front.reach; handed = h; lent = front.lent }) (append-nil front.handed))))
+      let k = word_of front found in
+      let reached : length x.bytes.items ≤ front.reach = subst (λ (f : Front). length x.bytes.items ≤ f.reach) k.1 k.2.reach in
+      let reach : max front.reach (length (bytes_of name (image_of files) ++ take through [])) ≡ front.reach = omega (arith, same_len, reached) in
+      ap (λ r. record { safe = front.safe; reach = r; handed = front.handed ++ []; lent = front.lent }) reach
+      ∙ ap (λ h. record { safe = front.safe; reach = front.reach; handed = h; lent = front.lent }) (append-nil front.handed))))
 
   -- a sync with nothing to do
   pub synced_already : x.dirty ≡ false → Becomes (λ image. image) (changed name (all_safe (bytes_of name (image_of files)))) (told_of (image_of files) cs asked astray) (told_of (image_of files) cs asked astray)
   synced_already clean =
-    becomes_untold (λ image. image) (changed name (all_safe (bytes_of name (image_of files)))) (image_of files) (image_of files) cs asked astray refl
-    (sym (changed_fixed name (all_safe (bytes_of name (image_of files))) (fronts_of (after_all [] cs))
+      becomes_untold (λ image. image) (changed name (all_safe (bytes_of name (image_of files)))) (image_of files) (image_of files) cs asked astray refl
+      (sym (changed_fixed name (all_safe (bytes_of name (image_of files))) (fronts_of (after_all [] cs))
       (λ front found.
-        let k = word_of front found in
-        let whole : front ≡ all_safe x.bytes.items front = subst (λ f. f ≡ all_safe x.bytes.items f) k.1 (k.2.clean clean) in
-        ap (λ b. all_safe b front) (bytes_is name files (after_all [] cs) i x tied first is) ∙ sym whole)))
+      let k = word_of front found in
+      let whole : front ≡ all_safe x.bytes.items front = subst (λ f. f ≡ all_safe x.bytes.items f) k.1 (k.2.clean clean) in
+      ap (λ b. all_safe b front) (bytes_is name files (after_all [] cs) i x tied first is) ∙ sym whole)))
 
   -- a cut
   pub cut_told : (g : MemFile) (len : ℕ) → g.name ≡ x.name → g.bytes.items ≡ take len x.bytes.items → Becomes (changed name (λ b. take len b)) (λ fronts. fronts) (told_of (image_of files) cs asked astray) (told_of (image_of (set files i g)) cs asked astray)
   cut_told g len same_name bytes =
-    becomes_untold (changed name (λ b. take len b)) (λ fronts. fronts) (image_of files) (image_of (set files i g)) cs asked astray
-    (changed-first (λ f. f.bytes.items) name files i x g (λ b. take len b) first (same_name ∙ ap (λ (f : MemFile). f.name) is) (bytes ∙ ap (λ (f : MemFile). take len f.bytes.items) is))
-    refl
+      becomes_untold (changed name (λ b. take len b)) (λ fronts. fronts) (image_of files) (image_of (set files i g)) cs asked astray
+      (changed-first (λ f. f.bytes.items) name files i x g (λ b. take len b) first (same_name ∙ ap (λ (f : MemFile). f.name) is) (bytes ∙ ap (λ (f : MemFile). take len f.bytes.items) is))
+      refl
 
   module _ (g : MemFile) (c : Change) (ds : List Change) (more : ds ≡ cs ++ c ∷ []) (same_name : g.name ≡ x.name) where
     pub appended_told : (through : ℕ) (piece : List ℕ) → ((k : Kept) → Fits x k → Fits g (handed (length x.bytes.items) through piece k)) → ((t : Table Kept) → after t c ≡ changed x.name (handed (length x.bytes.items) through piece) t) → g.bytes.items ≡ x.bytes.items ++ take through piece
-      → Becomes (changed name (λ b. b ++ take through piece)) (changed name (handed_more (length (bytes_of name (image_of files) ++ take through piece)) piece)) (told_of (image_of files) cs asked astray) (told_of (image_of (set files i g)) ds asked astray)
+        → Becomes (changed name (λ b. b ++ take through piece)) (changed name (handed_more (length (bytes_of name (image_of files) ++ take through piece)) piece)) (told_of (image_of files) cs asked astray) (told_of (image_of (set files i g)) ds asked astray)
     appended_told through piece fits change bytes =
-      edited_told name files cs ds i x g c (handed (length x.bytes.items) through piece) tied first is more same_name fits (change (after_all [] cs)) (λ b. b ++ take through piece) (handed_more (length (bytes_of name (image_of files) ++ take through piece)) piece) asked astray bytes
-      (λ k h. ap (λ b. handed_more (length (b ++ take through piece)) piece k.front) (sym h.bytes ∙ sym (bytes_is name files (after_all [] cs) i x tied first is)))
+        edited_told name files cs ds i x g c (handed (length x.bytes.items) through piece) tied first is more same_name fits (change (after_all [] cs)) (λ b. b ++ take through piece) (handed_more (length (bytes_of name (image_of files) ++ take through piece)) piece) asked astray bytes
+        (λ k h. ap (λ b. handed_more (length (b ++ take through piece)) piece k.front) (sym h.bytes ∙ sym (bytes_is name files (after_all [] cs) i x tied first is)))
 
     pub synced_told : ((k : Kept) → Fits x k → Fits g (synced (length x.bytes.items) k)) → ((t : Table Kept) → after t c ≡ changed x.name (synced (length x.bytes.items)) t) → g.bytes.items ≡ x.bytes.items
-      → Becomes (λ image. image) (changed name (all_safe (bytes_of name (image_of files)))) (told_of (image_of files) cs asked astray) (told_of (image_of (set files i g)) ds asked astray)
+        → Becomes (λ image. image) (changed name (all_safe (bytes_of name (image_of files)))) (told_of (image_of files) cs asked astray) (told_of (image_of (set files i g)) ds asked astray)
     synced_told fits change bytes =
-      let whole = edited_told name files cs ds i x g c (synced (length x.bytes.items)) tied first is more same_name fits (change (after_all [] cs)) (λ b. b) (all_safe (bytes_of name (image_of files))) asked astray bytes
+        let whole = edited_told name files cs ds i x g c (synced (length x.bytes.items)) tied first is more same_name fits (change (after_all [] cs)) (λ b. b) (all_safe (bytes_of name (image_of files))) asked astray bytes
         (λ k h. ap (λ b. all_safe b k.front) (sym h.bytes ∙ sym (bytes_is name files (after_all [] cs) i x tied first is))) in
-      record {
-        passes = whole.passes;
-        image = whole.image ∙ changed_fixed name (λ b. b) (image_of files) (λ b found. refl);
-        fronts = whole.fronts;
-        asked = whole.asked;
-        astray = whole.astray
-      }
+        record {
+          passes = whole.passes;
+          image = whole.image ∙ changed_fixed name (λ b. b) (image_of files) (λ b found. refl);
+          fronts = whole.fronts;
+          asked = whole.asked;
+          astray = whole.astray;
+        }
 
     pub returned_told : (bytes : List ℕ) → ((k : Kept) → Fits x k → Fits g (returned bytes k)) → ((t : Table Kept) → after t c ≡ changed x.name (returned bytes) t) → g.bytes.items ≡ bytes
-      → Becomes (changed name (λ _. bytes)) (changed name (brought_back bytes)) (told_of (image_of files) cs asked astray) (told_of (image_of (set files i g)) ds asked astray)
+        → Becomes (changed name (λ _. bytes)) (changed name (brought_back bytes)) (told_of (image_of files) cs asked astray) (told_of (image_of (set files i g)) ds asked astray)
     returned_told bytes fits change is_now =
-      edited_told name files cs ds i x g c (returned bytes) tied first is more same_name fits (change (after_all [] cs)) (λ _. bytes) (brought_back bytes) asked astray is_now (λ k h. refl)
+        edited_told name files cs ds i x g c (returned bytes) tied first is more same_name fits (change (after_all [] cs)) (λ _. bytes) (brought_back bytes) asked astray is_now (λ k h. refl)

@@ -1,16 +1,13 @@
 -- What an entry at the end of the journal adds, and the fronts of files that the journal tells.
-use Rattle.std.proofs.Common.{◌≡◌, ℕ, Bool, true, false, cond, List, [], ◌∷◌, ◌++◌, length, map, refl, sym, ◌∙◌, ap, arith, inl, inr}
-use Rattle.std.specs.declared.option.Option.{Option}
-use Rattle.std.specs.declared.option.Option.TheVariants.{None, Some}
+use Rattle.std.proofs.Common.{◌≡◌, ℕ, List, [], ◌∷◌, ◌++◌, refl, ◌∙◌, ap, arith, inl, inr}
+use Rattle.std.specs.declared.option.Option.TheVariants.{Some}
 use Rattle.std.specs.Option.{option_map, is_some}
 use Rattle.std.proofs.lemmas.Bool.{cases_Bool}
-use Rattle.std.proofs.lemmas.List.{map-append}
 use Rattle.bk_base.specs.declared.names.Name.{Name}
 use Rattle.bk_disk.specs.declared.disks.Listed.{Listed}
 use Rattle.bk_disk.specs.Names.{same}
 use Rattle.bk_disk.specs.Told.{Table, Image, Front, Told, at, names, changed, with_name, without, renamed}
 use Rattle.bk_disk.specs.Calls.{Becomes}
-use Rattle.bk_disk.proofs.Tables.{is_some-at}
 use Rattle.bk_memdisk.specs.declared.changes.Change.{Change}
 use Rattle.bk_memdisk.specs.Contents.{placed}
 use Rattle.bk_memdisk.specs.Journal.{Kept, after, after_all, fronts_of, fronts_before}
@@ -26,23 +23,27 @@ fronts_before-append t (d ∷ ds) c = ap (λ past. fronts_of t ∷ past) (fronts
 -- what is told of these files under this journal
 abbrev pub told_of : Image → List Change → List Listed → ℕ → Told
 told_of image cs asked astray = record {
-    image = image; past = fronts_before [] cs; fronts = fronts_of (after_all [] cs); asked = asked; astray = astray
-  }
+  image = image;
+  past = fronts_before [] cs;
+  fronts = fronts_of (after_all [] cs);
+  asked = asked;
+  astray = astray;
+}
 
 -- one entry more
 pub becomes : (edit : Image → Image) (step : Table Front → Table Front) (old new : Image) (cs ds : List Change) (c : Change) (asked : List Listed) (astray : ℕ)
-  → ds ≡ cs ++ c ∷ [] → new ≡ edit old → fronts_of (after (after_all [] cs) c) ≡ step (fronts_of (after_all [] cs)) → Becomes edit step (told_of old cs asked astray) (told_of new ds asked astray)
+    → ds ≡ cs ++ c ∷ [] → new ≡ edit old → fronts_of (after (after_all [] cs) c) ≡ step (fronts_of (after_all [] cs)) → Becomes edit step (told_of old cs asked astray) (told_of new ds asked astray)
 becomes edit step old new cs ds c asked astray more image fronts = record {
-    passes = inr (ap (fronts_before []) more ∙ fronts_before-append [] cs c);
-    image = image;
-    fronts = ap (λ xs. fronts_of (after_all [] xs)) more ∙ ap fronts_of (after_all-append [] cs c) ∙ fronts;
-    asked = refl;
-    astray = refl
-  }
+  passes = inr (ap (fronts_before []) more ∙ fronts_before-append [] cs c);
+  image = image;
+  fronts = ap (λ xs. fronts_of (after_all [] xs)) more ∙ ap fronts_of (after_all-append [] cs c) ∙ fronts;
+  asked = refl;
+  astray = refl;
+}
 
 -- no entry, since no stop can tell the change
 pub becomes_untold : (edit : Image → Image) (step : Table Front → Table Front) (old new : Image) (cs : List Change) (asked : List Listed) (astray : ℕ)
-  → new ≡ edit old → fronts_of (after_all [] cs) ≡ step (fronts_of (after_all [] cs)) → Becomes edit step (told_of old cs asked astray) (told_of new cs asked astray)
+    → new ≡ edit old → fronts_of (after_all [] cs) ≡ step (fronts_of (after_all [] cs)) → Becomes edit step (told_of old cs asked astray) (told_of new cs asked astray)
 becomes_untold edit step old new cs asked astray image fronts = record { passes = inl (refl, refl); image = image; fronts = fronts; asked = refl; astray = refl }
 
 -- The fronts after an edit
@@ -63,7 +64,7 @@ pub fronts-changed : (n : Name) (g : Kept → Kept) (step : Front → Front) (t 
 fronts-changed n g step [] h = refl
 fronts-changed n g step (e ∷ es) h =
     elim (cases_Bool (same n e.0)) [
-        inl p ↦ rw p (ap (λ front. (e.0, front) ∷ fronts_of es) (h e.1 (rw p refl)))
+      | inl p ↦ rw p (ap (λ front. (e.0, front) ∷ fronts_of es) (h e.1 (rw p refl)))
       | inr p ↦ rw p (ap (λ fronts. (e.0, e.1.front) ∷ fronts) (fronts-changed n g step es (λ k is. h k (rw p is))))
     ]
 

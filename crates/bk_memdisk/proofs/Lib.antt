@@ -1,6 +1,7 @@
-pub mod Choices
+pub mod Effects
 pub mod Entries
 pub mod Places
 pub mod Edits
 pub mod Listings
 pub mod Either
+pub mod Left

@@ -1,17 +1,16 @@
 -- A file is made, put there, renamed or removed.
-use Rattle.std.proofs.Common.{◌≡◌, ◌⊎◌, ℕ, ◌+◌, ◌-◌, ◌<◌, ◌≤◌, Bool, true, false, not, cond, List, [], ◌∷◌, ◌++◌, length, map, set, get_or, sum_by, refl, sym, ◌∙◌, ap, arith, subst, inl, inr}
+use Rattle.std.proofs.Common.{◌≡◌, ◌⊎◌, ℕ, ◌+◌, ◌-◌, ◌<◌, ◌≤◌, Bool, true, false, cond, List, [], ◌∷◌, ◌++◌, length, map, set, get_or, sum_by, refl, sym, ◌∙◌, ap, arith, subst, inl, inr}
 use Rattle.std.specs.Prelude.{Vec, IfOk, Result, Ok, Err}
 use Rattle.std.specs.declared.alloc.Global.{Global}
 use Rattle.std.specs.List.{position, remove}
 use Rattle.std.specs.declared.option.Option.{Option}
 use Rattle.std.specs.declared.option.Option.TheVariants.{None, Some}
-use Rattle.std.specs.Option.{option_map, is_some, IsSome, unwrap_or}
-use Rattle.std.proofs.lemmas.Bool.{cases_Bool}
+use Rattle.std.specs.Option.{is_some, unwrap_or}
 use Rattle.std.proofs.lemmas.List.Sums.{sum_by-remove, sum_by-append}
 use Rattle.bk_base.specs.declared.names.Name.{Name}
 use Rattle.bk_disk.specs.declared.disks.Listed.{Listed}
 use Rattle.bk_disk.specs.Names.{same}
-use Rattle.bk_disk.specs.Told.{Table, Image, Front, Told, at, listing, names, changed, with_name, without, renamed}
+use Rattle.bk_disk.specs.Told.{Table, Front, at, listing, changed, with_name, without, renamed}
 use Rattle.bk_disk.specs.Calls.{Becomes, fresh}
 use Rattle.bk_disk.proofs.Tables.{is_some-at, has, renamed-absent, at-renamed_other, at-without_other}
 use Rattle.bk_memdisk.specs.declared.changes.Change.{Change}
@@ -19,9 +18,9 @@ use Rattle.bk_memdisk.specs.declared.files.MemFile.{MemFile}
 use Rattle.bk_memdisk.specs.Contents.{placed}
 use Rattle.bk_memdisk.specs.Journal.{Kept, after, after_all, fronts_of}
 use Rattle.bk_memdisk.specs.Fits.{IsFirst, Fits, Tied, image_of, rooms_of, owed}
-use Rattle.bk_memdisk.proofs.Entries.{after_all-append, told_of, becomes, becomes_untold, is_some-fronts_of, fronts-with_name, fronts-placed, fronts-without, fronts-renamed, fronts-changed}
+use Rattle.bk_memdisk.proofs.Entries.{after_all-append, told_of, becomes, becomes_untold, is_some-fronts_of, fronts-with_name, fronts-placed, fronts-without, fronts-renamed}
 use Rattle.bk_memdisk.proofs.Edits
-use Rattle.bk_memdisk.proofs.Places.{at-first, found, at-not_found, first_below, renamed-first, without-first, tied_names, tied_append, tied_renamed, tied_without, table_of-append}
+use Rattle.bk_memdisk.proofs.Places.{at-first, found, at-not_found, renamed-first, without-first, tied_names, tied_append, tied_renamed, tied_without, table_of-append}
 
 without-absent : {X : Type 0} (n : Name) (t : Table X) → is_some (at t n) ≡ false → without n t ≡ t
 without-absent n [] h = refl
@@ -44,9 +43,9 @@ is_there n (f ∷ fs) i first = ap is_some (at-first (λ f. f.bytes.items) n (f 
 -- a search finds a file exactly where one is there
 pub same_there : (n : Name) (files : List MemFile) → is_some (position (λ f. same n f.name) files) ≡ is_some (at (image_of files) n)
 same_there n files = go (position (λ f. same n f.name) files) refl where
-    go : (o : Option ℕ) → position (λ f. same n f.name) files ≡ o → is_some (position (λ f. same n f.name) files) ≡ is_some (at (image_of files) n)
-    go (Some i) h = ap is_some h ∙ sym (is_there n files i (found n files i h))
-    go None h = ap is_some h ∙ sym (not_there n files h)
+  go : (o : Option ℕ) → position (λ f. same n f.name) files ≡ o → is_some (position (λ f. same n f.name) files) ≡ is_some (at (image_of files) n)
+  go (Some i) h = ap is_some h ∙ sym (is_there n files i (found n files i h))
+  go None h = ap is_some h ∙ sym (not_there n files h)
 
 pub listing_of : (files : List MemFile) → listing (image_of files) ≡ map (λ (f : MemFile). record { name = f.name; len = length f.bytes.items }) files
 listing_of [] = refl
@@ -63,47 +62,47 @@ module _ (files : List MemFile) (cs : List Change) (tied : Tied files (after_all
   -- the name is there already
   pub made_already : (n : Name) (lent : Bool) → is_some (at (image_of files) n) ≡ true → Becomes (with_name n []) (with_name n (fresh lent)) (told_of (image_of files) cs asked astray) (told_of (image_of files) cs asked astray)
   made_already n lent there =
-    becomes_untold (with_name n []) (with_name n (fresh lent)) (image_of files) (image_of files) cs asked astray
-    (rw there refl) (rw (front_there n files (after_all [] cs) tied ∙ there) refl)
+      becomes_untold (with_name n []) (with_name n (fresh lent)) (image_of files) (image_of files) cs asked astray
+      (rw there refl) (rw (front_there n files (after_all [] cs) tied ∙ there) refl)
 
   -- the name isn't there
   pub removed_already : (n : Name) → is_some (at (image_of files) n) ≡ false → Becomes (without n) (without n) (told_of (image_of files) cs asked astray) (told_of (image_of files) cs asked astray)
   removed_already n absent =
-    becomes_untold (without n) (without n) (image_of files) (image_of files) cs asked astray
-    (sym (without-absent n (image_of files) absent)) (sym (without-absent n (fronts_of (after_all [] cs)) (front_there n files (after_all [] cs) tied ∙ absent)))
+      becomes_untold (without n) (without n) (image_of files) (image_of files) cs asked astray
+      (sym (without-absent n (image_of files) absent)) (sym (without-absent n (fronts_of (after_all [] cs)) (front_there n files (after_all [] cs) tied ∙ absent)))
 
   pub renamed_already : (from to : Name) → is_some (at (image_of files) from) ≡ false → Becomes (renamed from to) (renamed from to) (told_of (image_of files) cs asked astray) (told_of (image_of files) cs asked astray)
   renamed_already from to absent =
-    becomes_untold (renamed from to) (renamed from to) (image_of files) (image_of files) cs asked astray
-    (sym (renamed-absent from to (image_of files) absent)) (sym (renamed-absent from to (fronts_of (after_all [] cs)) (front_there from files (after_all [] cs) tied ∙ absent)))
+      becomes_untold (renamed from to) (renamed from to) (image_of files) (image_of files) cs asked astray
+      (sym (renamed-absent from to (image_of files) absent)) (sym (renamed-absent from to (fronts_of (after_all [] cs)) (front_there from files (after_all [] cs) tied ∙ absent)))
 
 -- a new file stands at the end
 module _ (name : Name) (files : List MemFile) (cs ds : List Change) (f : MemFile) (k : Kept) (c : Change)
-  (tied : Tied files (after_all [] cs)) (absent : is_some (at (image_of files) name) ≡ false) (more : ds ≡ cs ++ c ∷ []) (is : f.name ≡ name) (fits : Fits f k) where
+    (tied : Tied files (after_all [] cs)) (absent : is_some (at (image_of files) name) ≡ false) (more : ds ≡ cs ++ c ∷ []) (is : f.name ≡ name) (fits : Fits f k) where
   no_word : is_some (at (after_all [] cs) name) ≡ false
   no_word = tied_there name files (after_all [] cs) tied ∙ absent
 
   pub added_tied : (after (after_all [] cs) c ≡ with_name name k (after_all [] cs)) ⊎ (after (after_all [] cs) c ≡ placed name k (after_all [] cs)) → Tied (files ++ f ∷ []) (after_all [] ds)
   added_tied change =
-    let grown : after (after_all [] cs) c ≡ after_all [] cs ++ (f.name, k) ∷ [] = elim change [ inl h ↦ h ∙ rw (no_word, is) refl | inr h ↦ h ∙ rw (no_word, is) refl ] in
-    subst (Tied (files ++ f ∷ [])) (sym (ap (after_all []) more ∙ after_all-append [] cs c ∙ grown)) (tied_append files (after_all [] cs) f k tied fits)
+      let grown : after (after_all [] cs) c ≡ after_all [] cs ++ (f.name, k) ∷ [] = elim change [ inl h ↦ h ∙ rw (no_word, is) refl | inr h ↦ h ∙ rw (no_word, is) refl ] in
+      subst (Tied (files ++ f ∷ [])) (sym (ap (after_all []) more ∙ after_all-append [] cs c ∙ grown)) (tied_append files (after_all [] cs) f k tied fits)
 
   grown_image : image_of (files ++ f ∷ []) ≡ image_of files ++ (name, f.bytes.items) ∷ []
   grown_image = table_of-append (λ f. f.bytes.items) files f ∙ ap (λ n. image_of files ++ (n, f.bytes.items) ∷ []) is
 
   pub made_told : (asked : List Listed) (astray : ℕ) (lent : Bool) → after (after_all [] cs) c ≡ with_name name k (after_all [] cs) → f.bytes.items ≡ [] → k.front ≡ fresh lent
-    → Becomes (with_name name []) (with_name name (fresh lent)) (told_of (image_of files) cs asked astray) (told_of (image_of (files ++ f ∷ [])) ds asked astray)
+      → Becomes (with_name name []) (with_name name (fresh lent)) (told_of (image_of files) cs asked astray) (told_of (image_of (files ++ f ∷ [])) ds asked astray)
   made_told asked astray lent change empty front =
-    becomes (with_name name []) (with_name name (fresh lent)) (image_of files) (image_of (files ++ f ∷ [])) cs ds c asked astray more
-    (grown_image ∙ rw (absent, empty) refl)
-    (ap fronts_of change ∙ fronts-with_name name k (after_all [] cs) ∙ ap (λ x. with_name name x (fronts_of (after_all [] cs))) front)
+      becomes (with_name name []) (with_name name (fresh lent)) (image_of files) (image_of (files ++ f ∷ [])) cs ds c asked astray more
+      (grown_image ∙ rw (absent, empty) refl)
+      (ap fronts_of change ∙ fronts-with_name name k (after_all [] cs) ∙ ap (λ x. with_name name x (fronts_of (after_all [] cs))) front)
 
   pub put_told : (asked : List Listed) (astray : ℕ) (bytes : List ℕ) (front : Front) → after (after_all [] cs) c ≡ placed name k (after_all [] cs) → f.bytes.items ≡ bytes → k.front ≡ front
-    → Becomes (placed name bytes) (placed name front) (told_of (image_of files) cs asked astray) (told_of (image_of (files ++ f ∷ [])) ds asked astray)
+      → Becomes (placed name bytes) (placed name front) (told_of (image_of files) cs asked astray) (told_of (image_of (files ++ f ∷ [])) ds asked astray)
   put_told asked astray bytes front change same_bytes same_front =
-    becomes (placed name bytes) (placed name front) (image_of files) (image_of (files ++ f ∷ [])) cs ds c asked astray more
-    (grown_image ∙ rw (absent, same_bytes) refl)
-    (ap fronts_of change ∙ fronts-placed name k (after_all [] cs) ∙ ap (λ x. placed name x (fronts_of (after_all [] cs))) same_front)
+      becomes (placed name bytes) (placed name front) (image_of files) (image_of (files ++ f ∷ [])) cs ds c asked astray more
+      (grown_image ∙ rw (absent, same_bytes) refl)
+      (ap fronts_of change ∙ fronts-placed name k (after_all [] cs) ∙ ap (λ x. placed name x (fronts_of (after_all [] cs))) same_front)
 
 room_append : (t : Table ℕ) (e : Name × ℕ) (n : Name) → unwrap_or (at t n) 0 ≤ unwrap_or (at (t ++ e ∷ []) n) 0
 room_append [] e n = omega arith
@@ -116,38 +115,38 @@ added_rooms files f n =
 
 -- the file has another name now
 module _ (from to : Name) (files : List MemFile) (cs ds : List Change) (i : ℕ) (x g : MemFile) (c : Change)
-  (tied : Tied files (after_all [] cs)) (first : IsFirst from files i) (same_file : x ≡ get_or files i x) (more : ds ≡ cs ++ c ∷ []) (is : g.name ≡ to)
-  (fits : (k : Kept) → Fits x k → Fits g k) (change : after (after_all [] cs) c ≡ renamed from to (after_all [] cs)) where
+    (tied : Tied files (after_all [] cs)) (first : IsFirst from files i) (same_file : x ≡ get_or files i x) (more : ds ≡ cs ++ c ∷ []) (is : g.name ≡ to)
+    (fits : (k : Kept) → Fits x k → Fits g k) (change : after (after_all [] cs) c ≡ renamed from to (after_all [] cs)) where
   pub moved_tied : Tied (set files i g) (after_all [] ds)
   moved_tied =
-    subst (Tied (set files i g)) (sym (ap (after_all []) more ∙ after_all-append [] cs c ∙ change))
-    (tied_renamed from to files (after_all [] cs) i x g tied first is (λ k h. fits k (subst (λ y. Fits y k) (sym same_file) h)))
+      subst (Tied (set files i g)) (sym (ap (after_all []) more ∙ after_all-append [] cs c ∙ change))
+      (tied_renamed from to files (after_all [] cs) i x g tied first is (λ k h. fits k (subst (λ y. Fits y k) (sym same_file) h)))
 
   pub moved_told : (asked : List Listed) (astray : ℕ) → g.bytes.items ≡ x.bytes.items → Becomes (renamed from to) (renamed from to) (told_of (image_of files) cs asked astray) (told_of (image_of (set files i g)) ds asked astray)
   moved_told asked astray bytes =
-    becomes (renamed from to) (renamed from to) (image_of files) (image_of (set files i g)) cs ds c asked astray more
-    (renamed-first (λ f. f.bytes.items) from to files i x g first is (bytes ∙ ap (λ (f : MemFile). f.bytes.items) same_file))
-    (ap fronts_of change ∙ fronts-renamed from to (after_all [] cs))
+      becomes (renamed from to) (renamed from to) (image_of files) (image_of (set files i g)) cs ds c asked astray more
+      (renamed-first (λ f. f.bytes.items) from to files i x g first is (bytes ∙ ap (λ (f : MemFile). f.bytes.items) same_file))
+      (ap fronts_of change ∙ fronts-renamed from to (after_all [] cs))
 
   pub moved_rooms : g.room ≡ x.room → (n : Name) → same n from ≡ false → same n to ≡ false → unwrap_or (at (rooms_of (set files i g)) n) 0 ≡ unwrap_or (at (rooms_of files) n) 0
   moved_rooms room n one other =
-    ap (λ t. unwrap_or (at t n) 0) (renamed-first (λ f. f.room) from to files i x g first is (room ∙ ap (λ (f : MemFile). f.room) same_file))
-    ∙ ap (λ o. unwrap_or o 0) (at-renamed_other from to n (rooms_of files) one other)
+      ap (λ t. unwrap_or (at t n) 0) (renamed-first (λ f. f.room) from to files i x g first is (room ∙ ap (λ (f : MemFile). f.room) same_file))
+      ∙ ap (λ o. unwrap_or o 0) (at-renamed_other from to n (rooms_of files) one other)
 
 -- the file is gone
 module _ (name : Name) (files : List MemFile) (cs ds : List Change) (i : ℕ) (c : Change)
-  (tied : Tied files (after_all [] cs)) (first : IsFirst name files i) (more : ds ≡ cs ++ c ∷ []) (change : after (after_all [] cs) c ≡ without name (after_all [] cs)) where
+    (tied : Tied files (after_all [] cs)) (first : IsFirst name files i) (more : ds ≡ cs ++ c ∷ []) (change : after (after_all [] cs) c ≡ without name (after_all [] cs)) where
   pub gone_tied : Tied (remove files i) (after_all [] ds)
   gone_tied = subst (Tied (remove files i)) (sym (ap (after_all []) more ∙ after_all-append [] cs c ∙ change)) (tied_without name files (after_all [] cs) i tied first)
 
   pub gone_told : (asked : List Listed) (astray : ℕ) → Becomes (without name) (without name) (told_of (image_of files) cs asked astray) (told_of (image_of (remove files i)) ds asked astray)
   gone_told asked astray =
-    becomes (without name) (without name) (image_of files) (image_of (remove files i)) cs ds c asked astray more
-    (without-first (λ f. f.bytes.items) name files i first) (ap fronts_of change ∙ fronts-without name (after_all [] cs))
+      becomes (without name) (without name) (image_of files) (image_of (remove files i)) cs ds c asked astray more
+      (without-first (λ f. f.bytes.items) name files i first) (ap fronts_of change ∙ fronts-without name (after_all [] cs))
 
   pub gone_rooms : (n : Name) → same n name ≡ false → unwrap_or (at (rooms_of (remove files i)) n) 0 ≡ unwrap_or (at (rooms_of files) n) 0
   gone_rooms n other =
-    ap (λ t. unwrap_or (at t n) 0) (without-first (λ f. f.room) name files i first) ∙ ap (λ o. unwrap_or o 0) (at-without_other name n (rooms_of files) other)
+      ap (λ t. unwrap_or (at t n) 0) (without-first (λ f. f.room) name files i first) ∙ ap (λ o. unwrap_or o 0) (at-without_other name n (rooms_of files) other)
 
 -- The entries of the journal that are reserved
 
@@ -162,7 +161,7 @@ owed_added files f reserved all = omega (arith, all, sum_by-append owed files (f
 
 -- A file is put in the place of another
 module _ (name : Name) (files : List MemFile) (cs ds : List Change) (i : ℕ) (x g : MemFile) (c : Change) (k : Kept)
-  (tied : Tied files (after_all [] cs)) (first : IsFirst name files i) (is : x ≡ get_or files i x) (more : ds ≡ cs ++ c ∷ []) (named : g.name ≡ name) (fits : Fits g k) (change : after (after_all [] cs) c ≡ placed name k (after_all [] cs)) where
+    (tied : Tied files (after_all [] cs)) (first : IsFirst name files i) (is : x ≡ get_or files i x) (more : ds ≡ cs ++ c ∷ []) (named : g.name ≡ name) (fits : Fits g k) (change : after (after_all [] cs) c ≡ placed name k (after_all [] cs)) where
   here : is_some (at (image_of files) name) ≡ true
   here = is_there name files i first
 
@@ -171,20 +170,20 @@ module _ (name : Name) (files : List MemFile) (cs ds : List Change) (i : ℕ) (x
 
   changed_word : after (after_all [] cs) c ≡ changed x.name (λ _. k) (after_all [] cs)
   changed_word =
-    let word : is_some (at (after_all [] cs) name) ≡ true = tied_there name files (after_all [] cs) tied ∙ here in
-    change ∙ rw word (ap (λ n. changed n (λ _. k) (after_all [] cs)) (sym (Edits.name_is name files (after_all [] cs) i x tied first is)))
+      let word : is_some (at (after_all [] cs) name) ≡ true = tied_there name files (after_all [] cs) tied ∙ here in
+      change ∙ rw word (ap (λ n. changed n (λ _. k) (after_all [] cs)) (sym (Edits.name_is name files (after_all [] cs) i x tied first is)))
 
   pub replaced_tied : Tied (set files i g) (after_all [] ds)
   replaced_tied = Edits.edited_tied name files cs ds i x g c (λ _. k) tied first is more same_name (λ j h. fits) changed_word
 
   pub replaced_told : (asked : List Listed) (astray : ℕ) (bytes : List ℕ) (front : Front) → g.bytes.items ≡ bytes → k.front ≡ front
-    → Becomes (placed name bytes) (placed name front) (told_of (image_of files) cs asked astray) (told_of (image_of (set files i g)) ds asked astray)
+      → Becomes (placed name bytes) (placed name front) (told_of (image_of files) cs asked astray) (told_of (image_of (set files i g)) ds asked astray)
   replaced_told asked astray bytes front same_bytes same_front =
-    let edit = Edits.edited_told name files cs ds i x g c (λ _. k) tied first is more same_name (λ j h. fits) changed_word (λ _. bytes) (λ _. front) asked astray same_bytes (λ j h. same_front) in
-    record {
-      passes = edit.passes;
-      image = edit.image ∙ rw here refl;
-      fronts = edit.fronts ∙ rw (front_there name files (after_all [] cs) tied ∙ here) refl;
-      asked = edit.asked;
-      astray = edit.astray
-    }
+      let edit = Edits.edited_told name files cs ds i x g c (λ _. k) tied first is more same_name (λ j h. fits) changed_word (λ _. bytes) (λ _. front) asked astray same_bytes (λ j h. same_front) in
+      record {
+        passes = edit.passes;
+        image = edit.image ∙ rw here refl;
+        fronts = edit.fronts ∙ rw (front_there name files (after_all [] cs) tied ∙ here) refl;
+        asked = edit.asked;
+        astray = edit.astray;
+      }

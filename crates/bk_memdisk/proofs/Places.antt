@@ -1,25 +1,24 @@
 -- The files of a directory by their places.
-use Rattle.std.proofs.Common.{◌≡◌, ℕ, zero, suc, ◌+◌, ◌<◌, ◌≤◌, Bool, true, false, cond, List, [], ◌∷◌, ◌++◌, length, map, set, get_or, sum_by, refl, sym, ◌∙◌, ap, arith, subst, inl, inr}
+use Rattle.std.proofs.Common.{◌≡◌, ℕ, zero, suc, ◌+◌, ◌<◌, List, [], ◌∷◌, ◌++◌, length, map, set, get_or, refl, sym, ◌∙◌, ap, arith, subst, inl, inr}
 use Rattle.std.specs.List.{position, position_from, remove}
 use Rattle.std.specs.declared.option.Option.{Option}
 use Rattle.std.specs.declared.option.Option.TheVariants.{None, Some}
-use Rattle.std.specs.Option.{option_map, is_some, IsSome}
+use Rattle.std.specs.Option.{IsSome}
 use Rattle.std.proofs.lemmas.Bool.{cases_Bool}
 use Rattle.std.proofs.lemmas.Iterator.Adapters.{position_from-zero}
 use Rattle.bk_base.specs.declared.names.Name.{Name}
 use Rattle.bk_disk.specs.Names.{same}
-use Rattle.bk_disk.specs.Told.{Table, Image, Front, at, names, changed, with_name, without, renamed}
+use Rattle.bk_disk.specs.Told.{Table, at, names, changed, without, renamed}
 use Rattle.bk_disk.proofs.Names.{same_eq}
 use Rattle.bk_memdisk.specs.declared.files.MemFile.{MemFile}
-use Rattle.bk_memdisk.specs.Contents.{placed}
-use Rattle.bk_memdisk.specs.Journal.{Kept, fronts_of}
-use Rattle.bk_memdisk.specs.Fits.{IsFirst, Fits, Tied, image_of, rooms_of, owed}
+use Rattle.bk_memdisk.specs.Journal.{Kept}
+use Rattle.bk_memdisk.specs.Fits.{IsFirst, Fits, Tied, image_of}
 
 found_from : (name : Name) (j i : ℕ) (files : List MemFile) → position_from (λ f. same name f.name) j files ≡ Some i → (k : ℕ) × (i ≡ j + k) × IsFirst name files k
 found_from name j i [] h = absurd (cc h)
 found_from name j i (f ∷ fs) h =
     elim (cases_Bool (same name f.name)) [
-        inl p ↦ let is : Some j ≡ Some i = rw p at h in let same_place : i ≡ j = cc is in (0, omega (arith, same_place), p)
+      | inl p ↦ let is : Some j ≡ Some i = rw p at h in let same_place : i ≡ j = cc is in (0, omega (arith, same_place), p)
       | inr p ↦ let k = found_from name (j + 1) i fs (rw p at h) in (suc k.0, omega (arith, k.1), (p, k.2))
     ]
 
@@ -132,6 +131,6 @@ at-not_found v name files none = not_from v name 0 files (sym (position_from-zer
 
 pub there_found : (name : Name) (files : List MemFile) → IsSome (at (image_of files) name) → IsSome (position (λ f. same name f.name) files)
 there_found name files there = go (position (λ f. same name f.name) files) refl where
-    go : (o : Option ℕ) → position (λ f. same name f.name) files ≡ o → IsSome o
-    go (Some i) h = refl
-    go None h = subst (λ o. IsSome o) (at-not_found (λ f. f.bytes.items) name files h) there
+  go : (o : Option ℕ) → position (λ f. same name f.name) files ≡ o → IsSome o
+  go (Some i) h = refl
+  go None h = subst (λ o. IsSome o) (at-not_found (λ f. f.bytes.items) name files h) there

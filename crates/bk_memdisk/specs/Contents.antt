@@ -1,7 +1,6 @@
 -- What contracts see of the files of a disk in memory.
-use Rattle.std.specs.Prelude.{◌≡◌, ℕ, ◌≤◌, cond, List, [], ◌∷◌, ◌++◌, is_some, unwrap_or}
+use Rattle.std.specs.Prelude.{ℕ, ◌≤◌, cond, List, [], ◌∷◌, ◌++◌, is_some, unwrap_or}
 use Rattle.bk_base.specs.declared.names.Name.{Name}
-use Rattle.bk_disk.specs.Names.{same}
 use Rattle.bk_disk.specs.Told.{Table, Told, at, changed}
 use Rattle.bk_disk.specs.Stops.{front_of}
 use Rattle.bk_disk.specs.Calls.{Becomes}

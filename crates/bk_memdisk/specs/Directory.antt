@@ -8,15 +8,15 @@ use Rattle.bk_memdisk.specs.Fits.{image_of, rooms_of, owed, Tied}
 
 abbrev pub contents_of : Inside → Contents
 contents_of d = record {
-    told = record {
-      image = image_of d.files.items;
-      past = fronts_before [] d.journal.items;
-      fronts = fronts_of (after_all [] d.journal.items);
-      asked = d.asked.items;
-      astray = d.astray
-    };
-    rooms = rooms_of d.files.items
-  }
+  told = record {
+    image = image_of d.files.items;
+    past = fronts_before [] d.journal.items;
+    fronts = fronts_of (after_all [] d.journal.items);
+    asked = d.asked.items;
+    astray = d.astray;
+  };
+  rooms = rooms_of d.files.items;
+}
 
 pub record IsKept (d : Inside) : Type 0 where
   pub tied : Tied d.files.items (after_all [] d.journal.items)

@@ -1,6 +1,5 @@
 -- What the journal of a disk in memory says of each file: its bytes, and what a stop may leave of it.
-use Rattle.std.specs.Prelude.{◌≡◌, ℕ, ◌+◌, Bool, List, [], ◌∷◌, ◌++◌, length, take, map}
-use Rattle.bk_base.specs.declared.names.Name.{Name}
+use Rattle.std.specs.Prelude.{ℕ, Bool, List, [], ◌∷◌, ◌++◌, length, take, map}
 use Rattle.bk_disk.specs.Told.{Table, Front, changed, with_name, without, renamed}
 use Rattle.bk_disk.specs.Stops.{front_of}
 use Rattle.bk_disk.specs.Calls.{handed_more, all_safe, fresh, brought_back}

@@ -8,3 +8,4 @@ pub mod Plans
 pub mod Chosen
 pub mod Plan
 pub mod Disk
+pub mod Crash

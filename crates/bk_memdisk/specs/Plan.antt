@@ -1,5 +1,5 @@
 -- How a plan stands for the calls that fail.
-use Rattle.std.specs.Prelude.{◌≡◌, ℕ, ◌≤◌, List, length, take, drop}
+use Rattle.std.specs.Prelude.{ℕ, ◌≤◌, length, take, drop}
 use Rattle.std.specs.declared.option.Option.{Option}
 use Rattle.std.specs.declared.option.Option.TheVariants.{None, Some}
 use Rattle.bk_memdisk.specs.declared.plans.Fuse.{Fuse}
@@ -18,11 +18,11 @@ burns_of (Some fuse) = Some (record { call = fuse.call; effect = fuse.effect })
 
 abbrev pub planned_of : Inside → Planned
 planned_of p = record {
-    calls = p.calls;
-    earlier = pairs_of (take (earlier_than p.fuse) p.chosen.items);
-    later = pairs_of (drop (earlier_than p.fuse) p.chosen.items);
-    fuse = burns_of p.fuse
-  }
+  calls = p.calls;
+  earlier = pairs_of (take (earlier_than p.fuse) p.chosen.items);
+  later = pairs_of (drop (earlier_than p.fuse) p.chosen.items);
+  fuse = burns_of p.fuse;
+}
 
 abbrev pub EndsWithin : Inside → Type 0
 EndsWithin p = earlier_than p.fuse ≤ length p.chosen.items

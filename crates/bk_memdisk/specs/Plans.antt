@@ -1,5 +1,5 @@
 -- Which calls of a disk in memory fail, and with what effect.
-use Rattle.std.specs.Prelude.{◌≡◌, ℕ, ◌+◌, ◌-◌, ◌==◌, min, Bool, cond, nat_le, List, [], ◌∷◌, ◌++◌}
+use Rattle.std.specs.Prelude.{ℕ, ◌+◌, ◌-◌, ◌==◌, min, cond, nat_le, List, [], ◌∷◌, ◌++◌}
 use Rattle.std.specs.declared.option.Option.{Option}
 use Rattle.std.specs.declared.option.Option.TheVariants.{None, Some}
 use Rattle.bk_disk.specs.Causes.{most}
@@ -26,14 +26,19 @@ plus calls n = min (calls + n) most
 
 abbrev pub chosen : ℕ → ℕ → Planned → Planned
 chosen nth effect p = record {
-    calls = p.calls; earlier = p.earlier; later = p.later ++ (plus p.calls nth, effect) ∷ []; fuse = p.fuse
-  }
+  calls = p.calls;
+  earlier = p.earlier;
+  later = p.later ++ (plus p.calls nth, effect) ∷ [];
+  fuse = p.fuse;
+}
 
 abbrev pub fused : ℕ → ℕ → Planned → Planned
 fused calls effect p = record {
-    calls = p.calls; earlier = p.earlier ++ p.later; later = [];
-    fuse = Some (record { call = plus p.calls calls; effect = effect })
-  }
+  calls = p.calls;
+  earlier = p.earlier ++ p.later;
+  later = [];
+  fuse = Some (record { call = plus p.calls calls; effect = effect });
+}
 
 abbrev pub one_later : Planned → Planned
 one_later p = record { calls = plus p.calls 1; earlier = p.earlier; later = p.later; fuse = p.fuse }

@@ -6,14 +6,36 @@ use bk_base::Name;
 // append keeps its place in the file and its bytes, and a sync its length.
 #[derive(Drop)]
 pub(crate) enum Change {
-    Made { name: Name, lent: bool },
+    Made {
+        name: Name,
+        lent: bool,
+    },
     // All of `bytes` were handed to an append, and the first `through` of them stand at `at`.
-    Handed { name: Name, at: usize, through: usize, bytes: Vec<u8> },
-    Synced { name: Name, len: usize },
+    Handed {
+        name: Name,
+        at: usize,
+        through: usize,
+        bytes: Vec<u8>,
+    },
+    Synced {
+        name: Name,
+        len: usize,
+    },
     // A lent file came back with these bytes.
-    Returned { name: Name, bytes: Vec<u8> },
+    Returned {
+        name: Name,
+        bytes: Vec<u8>,
+    },
     // A synced file was put there.
-    Placed { name: Name, bytes: Vec<u8> },
-    Renamed { from: Name, to: Name },
-    Removed { name: Name },
+    Placed {
+        name: Name,
+        bytes: Vec<u8>,
+    },
+    Renamed {
+        from: Name,
+        to: Name,
+    },
+    Removed {
+        name: Name,
+    },
 }

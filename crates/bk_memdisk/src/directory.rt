@@ -1,12 +1,15 @@
 //! The files of a disk in memory, with the journal of their changes.
 ghost use Rattle.std.specs.Prelude.{◌≡◌, ◌+◌, ◌<◌, ◌≤◌, ◌⊎◌, Bool, false, true, not, List, [], ℕ, length, take, drop, map, position, IsTrue, IsOk, IfOk, OnOk, OnErr, is_ok, IsSome, option_copied, IfSome, IsErrOf, ◌↔◌};
 ghost use Rattle.bk_disk.specs.Names.{same};
-ghost use Rattle.bk_disk.specs.Told.{nothing_told, at, bytes_of, listing, IsOurs, IsLent, IsOneThere, is_within, range_of, CutsWithin, IsWithin};
+ghost use Rattle.bk_disk.specs.Told.{nothing_told, names, IsOnce, at, bytes_of, listing, IsOurs, IsLent, IsOneThere, is_within, range_of, CutsWithin, IsWithin};
+ghost use Rattle.bk_disk.specs.Stops.{MayLeave, IsSynced};
+ghost use Rattle.bk_memdisk.specs.Crash.{crashed};
 ghost use Rattle.bk_memdisk.specs.Contents.{room_of, KeepsRooms, Placed};
 ghost use Rattle.bk_memdisk.specs.Fits.{IsFirst, image_of};
 ghost use Rattle.bk_disk.specs.Calls.{Appended, Synced, Made, Cut, Removed, Renamed, Returned, viewed};
 
 use crate::changes::Change;
+use crate::choices::{Choice, left};
 use crate::files::MemFile;
 use bk_base::Name;
 use bk_disk::{DiskError, Listed};
@@ -64,6 +67,22 @@ impl Directory {
         ensures { IfOk result (λ files. files.items ≡ listing self.now.told.image) }
     {
         list_of(self.alloc, &self.files)
+    }
+
+    // What a stop leaves by the choice, synced whole and with no name lent.
+    pub(crate) fn crash(&self, choice: &Choice) -> Result<Directory, AllocError>
+        requires { IsOnce (names self.now.told.image) }
+        ensures image { IfOk result (λ after. after.told.image ≡ crashed choice.now.keep choice.now.flips.items self.now.told.fronts self.now.told.image) }
+        ensures may_leave { IfOk result (λ after. MayLeave self.now.told.fronts after.told.image) }
+        ensures synced { IfOk result (λ after. IsSynced after.told) }
+    {
+        let mut after = Directory::new(self.alloc);
+        for file in &self.files {
+            let bytes = left(self.alloc, &file.bytes, file.safe, choice)?;
+            let copy = bytes.to_vec(self.alloc)?;
+            after.place(file.name, bytes, copy)?;
+        }
+        Ok(after)
     }
 
     // Makes the file's room at least `bytes`, and reserves the journal's entries for an append and the
@@ -127,7 +146,12 @@ impl Directory {
     }
 
     // Puts a synced file there. Its bytes come twice, the second time for the journal.
-    pub(crate) fn place(&mut self, name: Name, bytes: Vec<u8>, copy: Vec<u8>) -> Result<(), AllocError>
+    pub(crate) fn place(
+        &mut self,
+        name: Name,
+        bytes: Vec<u8>,
+        copy: Vec<u8>,
+    ) -> Result<(), AllocError>
         requires { copy.items ≡ bytes.items }
         ensures ok { OnOk result (Placed name bytes.items self.old.told self.new.told) }
         ensures err { OnErr result (self.new ≡ self.old) }
@@ -179,7 +203,13 @@ impl Directory {
     }
 
     // The bytes of a range, and the view is told; where it asks past the end, that is told.
-    pub(crate) fn view(&mut self, name: Name, at: u64, len: u64, fails: bool) -> Result<Vec<u8>, DiskError>
+    pub(crate) fn view(
+        &mut self,
+        name: Name,
+        at: u64,
+        len: u64,
+        fails: bool,
+    ) -> Result<Vec<u8>, DiskError>
         ensures within { OnOk result (IsWithin name at len self.old.told.image) }
         ensures bytes { IfOk result (λ bytes. bytes.items ≡ range_of name at len self.old.told.image) }
         ensures told { self.new.told ≡ viewed (is_ok result) name at len self.old.told }

@@ -1,8 +1,9 @@
 //! A disk in memory.
-ghost use Rattle.std.specs.Prelude.{◌≡◌, ◌≤◌, IsTrue, [], OnOk, OnErr, option_copied};
+ghost use Rattle.std.specs.Prelude.{◌≡◌, ◌≤◌, IsTrue, [], IfOk, OnOk, OnErr, option_copied};
 ghost use Rattle.bk_disk.specs.Causes.{Rose};
 ghost use Rattle.bk_disk.specs.Well.{is_well};
 
+use crate::choices::Choice;
 use crate::directory::Directory;
 use crate::outs::MemOut;
 use crate::plans::Plan;
@@ -26,7 +27,9 @@ pub struct MemDisk {
 
 impl MemDisk {
     ghost use Rattle.bk_disk.specs.Told.{nothing_told, at};
+    ghost use Rattle.bk_disk.specs.Stops.{MayLeaveNow, IsSynced};
     ghost use Rattle.bk_memdisk.specs.Contents.{Placed};
+    ghost use Rattle.bk_memdisk.specs.Crash.{crashed};
     ghost use Rattle.bk_memdisk.specs.Plans.{nothing_chosen, chosen, fused};
     ghost use Rattle.bk_memdisk.specs.Disk.{told_by, calls_of, views_of, faults_of};
 
@@ -63,6 +66,27 @@ impl MemDisk {
             Ok(()) => Ok(()),
             Err(_) => Err(Memory),
         }
+    }
+
+    /// The disk that a stop leaves by this choice: of each file its synced bytes, and of the bytes
+    /// past them what the choice says. All of it is synced, no name is lent, nothing is set to fail.
+    pub fn crash(self, choice: &Choice) -> Result<MemDisk, Memory>
+        ensures image { IfOk result (λ after. (told_by after).image ≡ crashed choice.now.keep choice.now.flips.items (told_by self).fronts (told_by self).image) }
+        ensures allowed { IfOk result (λ after. MayLeaveNow (told_by self) (told_by after).image) }
+        ensures synced { IfOk result (λ after. IsSynced (told_by after)) }
+        ensures nothing_fails { IfOk result (λ after. (calls_of after ≡ nothing_chosen) × (views_of after ≡ nothing_chosen)) }
+    {
+        let Ok(directory) = self.directory.crash(choice) else {
+            return Err(Memory);
+        };
+        Ok(MemDisk {
+            alloc: self.alloc,
+            directory,
+            calls: Plan::new(self.alloc),
+            views: Plan::new(self.alloc),
+            faults: 0,
+            weak_views: 0,
+        })
     }
 
     /// A file's bytes as it reads.
@@ -110,24 +134,11 @@ fn fault(faults: &mut u64) -> Failed
     Failed
 }
 
-#[tactic(
-    auto,
-    using(
-        bk_disk::proofs::Still::still_appended,
-        bk_disk::proofs::Still::still_synced,
-        bk_disk::proofs::Still::still_cut,
-        bk_disk::proofs::Still::still_made,
-        bk_disk::proofs::Still::still_removed,
-        bk_disk::proofs::Still::still_renamed,
-        bk_disk::proofs::Still::still_returned,
-        bk_disk::proofs::Still::still_viewed,
-        bk_disk::proofs::Still::still_same
-    )
-)]
+#[tactic(auto, using(bk_disk::proofs::Still::still_appended, bk_disk::proofs::Still::still_synced, bk_disk::proofs::Still::still_cut, bk_disk::proofs::Still::still_made, bk_disk::proofs::Still::still_removed, bk_disk::proofs::Still::still_renamed, bk_disk::proofs::Still::still_returned, bk_disk::proofs::Still::still_viewed, bk_disk::proofs::Still::still_same))]
 impl Disk for MemDisk {
     ghost use Rattle.std.specs.Prelude.{true, refl};
     ghost use Rattle.bk_memdisk.specs.Contents.{room_of};
-    ghost use Rattle.bk_disk.proofs.Tests.{from_test};
+    ghost use Rattle.bk_disk.proofs.Unique.{from_test};
 
     type View = MemView;
 

@@ -3,6 +3,7 @@
 #![tactic(auto)]
 
 mod changes;
+mod choices;
 mod clocks;
 mod countdown;
 mod directory;
@@ -14,6 +15,7 @@ mod sinks;
 mod sources;
 mod views;
 
+pub use choices::Choice;
 pub use clocks::ListClock;
 pub use disks::MemDisk;
 pub use outs::MemOut;

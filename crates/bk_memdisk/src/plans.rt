@@ -91,7 +91,11 @@ impl Plan {
         if self.calls <= fuse.call {
             return last_effect(earlier, self.calls);
         }
-        Some(if self.calls - fuse.call == 1 { fuse.effect } else { 0 })
+        Some(if self.calls - fuse.call == 1 {
+            fuse.effect
+        } else {
+            0
+        })
     }
 }
 

@@ -1,4 +1,4 @@
-use Rattle.std.proofs.Common.{sym, ◌∙◌, subst, ◌≡◌, rules}
+use Rattle.std.proofs.Common.{sym, ◌∙◌, subst}
 use Rattle.std.specs.Option.{IsSome}
 use Rattle.bk_memdisk.proofs.Places.{found, there_found}
 use Rattle.bk_memdisk.proofs.directory.place_of.Goals as goal

@@ -1,9 +1,7 @@
-use Rattle.std.proofs.Common.{◌≡◌, ℕ, ◌+◌, ◌-◌, ◌<◌, ◌≤◌, List, [], length, true, false, sym, ◌∙◌, ap, subst, arith, rules, refl}
-use Rattle.bk_disk.specs.Told.{IsOurs, IsLent, CutsWithin}
-use Rattle.bk_memdisk.specs.declared.files.MemFile.{MemFile}
-use Rattle.bk_memdisk.specs.Contents.{Contents, room_of}
-use Rattle.bk_memdisk.specs.Journal.{Kept, handed, synced, returned, after_all}
-use Rattle.bk_memdisk.specs.Fits.{owed}
+use Rattle.std.proofs.Common.{[], true, sym, ap, subst, arith}
+use Rattle.bk_disk.specs.Told.{IsLent}
+use Rattle.bk_memdisk.specs.Contents.{Contents}
+use Rattle.bk_memdisk.specs.Journal.{returned, after_all}
 use Rattle.bk_memdisk.proofs.Edits
 use Rattle.bk_memdisk.proofs.directory.Directory.adopt.Goals as goal
 
@@ -21,7 +19,7 @@ invariant_of-self c =
     record {
       tied = Edits.edited_tied c.args.name c.self.inside.files.items c.self.inside.journal.items c.push_reserved.new.self.items c.place_of-index.result c.index_mut-file.result.now c.adopt-change.new.self c.adopt-change.result (returned c.args.bytes.items) c.self.invariant.tied first c.index_mut-file.ensures.value c.push_reserved.ensures.items c.adopt-change.ensures.name c.adopt-change.ensures.fits (c.adopt-change.ensures.change (after_all [] c.self.inside.journal.items));
       reserved = rw (c.owed-before.ensures.value, c.owed-now.ensures.value) (Edits.owed_set c.self.inside.files.items c.place_of-index.result c.index_mut-file.result.now below c.index_mut-file.ensures.value c.adopt-change.new.self c.self.inside.reserved c.self.invariant.reserved);
-      room = omega (arith, within, c.adopt-change.ensures.owed, c.owed-before.ensures.value, c.owed-now.ensures.value, c.push_reserved.ensures.len, c.push_reserved.ensures.capacity, c.self.invariant.room, c.self.invariant.reserved)
+      room = omega (arith, within, c.adopt-change.ensures.owed, c.owed-before.ensures.value, c.owed-now.ensures.value, c.push_reserved.ensures.len, c.push_reserved.ensures.capacity, c.self.invariant.room, c.self.invariant.reserved);
     }
 
 pub returns-clause-told : goal.returns-clause-told

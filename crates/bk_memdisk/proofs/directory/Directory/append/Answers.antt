@@ -1,9 +1,7 @@
-use Rattle.std.proofs.Common.{◌≡◌, ℕ, ◌+◌, ◌-◌, ◌<◌, ◌≤◌, List, [], length, true, false, sym, ◌∙◌, ap, subst, arith, rules, refl}
-use Rattle.bk_disk.specs.Told.{IsOurs, IsLent, CutsWithin}
-use Rattle.bk_memdisk.specs.declared.files.MemFile.{MemFile}
+use Rattle.std.proofs.Common.{◌≤◌, [], length, false, sym, ◌∙◌, ap, subst, arith}
+use Rattle.bk_disk.specs.Told.{IsOurs}
 use Rattle.bk_memdisk.specs.Contents.{Contents, room_of}
-use Rattle.bk_memdisk.specs.Journal.{Kept, handed, synced, returned, after_all}
-use Rattle.bk_memdisk.specs.Fits.{owed}
+use Rattle.bk_memdisk.specs.Journal.{handed, after_all}
 use Rattle.bk_memdisk.proofs.Edits
 use Rattle.bk_memdisk.proofs.directory.Directory.append.Goals as goal
 
@@ -44,7 +42,7 @@ invariant_of-self-2 c =
     record {
       tied = Edits.edited_tied c.args.name c.self.inside.files.items c.self.inside.journal.items c.push_reserved.new.self.items c.place_of-index.result c.index_mut-file.result.now c.append-change.new.self c.append-change.result (handed (length c.index_mut-file.result.now.bytes.items) c.args.through c.args.piece.now) c.self.invariant.tied first c.index_mut-file.ensures.value c.push_reserved.ensures.items c.append-change.ensures.name c.append-change.ensures.fits (c.append-change.ensures.change (after_all [] c.self.inside.journal.items));
       reserved = rw (c.owed-before.ensures.value, c.owed-now.ensures.value) (Edits.owed_set c.self.inside.files.items c.place_of-index.result c.index_mut-file.result.now below c.index_mut-file.ensures.value c.append-change.new.self c.self.inside.reserved c.self.invariant.reserved);
-      room = omega (arith, within, less, c.owed-before.ensures.value, c.owed-now.ensures.value, c.push_reserved.ensures.len, c.push_reserved.ensures.capacity, c.self.invariant.room, c.self.invariant.reserved)
+      room = omega (arith, within, less, c.owed-before.ensures.value, c.owed-now.ensures.value, c.push_reserved.ensures.len, c.push_reserved.ensures.capacity, c.self.invariant.room, c.self.invariant.reserved);
     }
 
 pub returns-clause-told : goal.returns-clause-told

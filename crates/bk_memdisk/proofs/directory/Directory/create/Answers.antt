@@ -1,15 +1,8 @@
-use Rattle.std.proofs.Common.{◌≡◌, ℕ, ◌+◌, ◌-◌, ◌<◌, ◌≤◌, List, [], length, true, false, sym, ◌∙◌, ap, subst, arith, rules, refl, inl, inr}
+use Rattle.std.proofs.Common.{sym, ◌∙◌, ap, arith, refl, inl}
 use Rattle.std.specs.Option.{is_some}
-use Rattle.bk_disk.specs.Stops.{front_of}
-use Rattle.bk_disk.specs.Told.{listing}
-use Rattle.bk_memdisk.specs.declared.changes.Change.TheVariants.{Made, Placed, Renamed, Removed}
-use Rattle.bk_memdisk.specs.declared.files.MemFile.{MemFile}
-use Rattle.bk_memdisk.specs.Contents.{Contents, room_of}
-use Rattle.bk_memdisk.specs.Journal.{Kept, made, whole, after_all}
-use Rattle.bk_memdisk.specs.Fits.{owed}
-use Rattle.bk_memdisk.proofs.Edits
+use Rattle.bk_memdisk.specs.declared.changes.Change.TheVariants.{Made}
+use Rattle.bk_memdisk.specs.Journal.{made}
 use Rattle.bk_memdisk.proofs.Listings
-use Rattle.bk_memdisk.proofs.Places.{found, at-not_found}
 use Rattle.bk_memdisk.proofs.directory.Directory.create.Goals as goal
 
 pub returns-then-is_some-clause-ok : goal.returns-then-is_some-clause-ok
@@ -24,7 +17,7 @@ invariant_of-self-2 c =
     record {
       tied = rw c.in_ok-push.ensures.items (Listings.added_tied c.args.name c.self.inside.files.items c.self.inside.journal.items c.push_reserved.new.self.items c.new-file.result (made c.args.lent) (Made c.args.name c.args.lent) c.self.invariant.tied absent more c.new-file.ensures.name c.new-file.ensures.fits (inl refl));
       reserved = rw (c.in_ok-push.ensures.items, c.owed-owed.ensures.value) (Listings.owed_added c.self.inside.files.items c.new-file.result c.self.inside.reserved c.self.invariant.reserved);
-      room = omega (arith, Listings.one_at_most c.args.lent, c.owed-owed.ensures.value, c.new-file.ensures.owed, c.in_ok-reserve.ensures.ok, c.push_reserved.ensures.len, c.push_reserved.ensures.capacity)
+      room = omega (arith, Listings.one_at_most c.args.lent, c.owed-owed.ensures.value, c.new-file.ensures.owed, c.in_ok-reserve.ensures.ok, c.push_reserved.ensures.len, c.push_reserved.ensures.capacity);
     }
 
 pub returns-clause-ok : goal.returns-clause-ok

@@ -1,9 +1,7 @@
-use Rattle.std.proofs.Common.{◌≡◌, ℕ, ◌+◌, ◌-◌, ◌<◌, ◌≤◌, List, [], length, true, false, sym, ◌∙◌, ap, subst, arith, rules, refl}
-use Rattle.bk_disk.specs.Told.{IsOurs, IsLent, CutsWithin}
-use Rattle.bk_memdisk.specs.declared.files.MemFile.{MemFile}
-use Rattle.bk_memdisk.specs.Contents.{Contents, room_of}
-use Rattle.bk_memdisk.specs.Journal.{Kept, handed, synced, returned, after_all}
-use Rattle.bk_memdisk.specs.Fits.{owed}
+use Rattle.std.proofs.Common.{[], sym, ap, subst, arith}
+use Rattle.bk_disk.specs.Told.{CutsWithin}
+use Rattle.bk_memdisk.specs.Contents.{Contents}
+use Rattle.bk_memdisk.specs.Journal.{after_all}
 use Rattle.bk_memdisk.proofs.Edits
 use Rattle.bk_memdisk.proofs.directory.Directory.cut.Goals as goal
 
@@ -19,7 +17,7 @@ invariant_of-self c =
     record {
       tied = Edits.set_tied c.self.inside.files.items c.place_of-index.result c.index_mut-file.result.now below c.index_mut-file.ensures.value c.cut.new.self (after_all [] c.self.inside.journal.items) c.self.invariant.tied c.cut.ensures.name c.cut.ensures.fits;
       reserved = Edits.same_owed c.self.inside.files.items c.place_of-index.result c.index_mut-file.result.now below c.index_mut-file.ensures.value c.cut.new.self c.self.inside.reserved c.cut.ensures.owed c.self.invariant.reserved;
-      room = c.self.invariant.room
+      room = c.self.invariant.room;
     }
 
 pub returns-clause-told : goal.returns-clause-told

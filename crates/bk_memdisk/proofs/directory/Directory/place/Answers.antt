@@ -1,14 +1,11 @@
-use Rattle.std.proofs.Common.{◌≡◌, ℕ, ◌+◌, ◌-◌, ◌<◌, ◌≤◌, List, [], length, true, false, sym, ◌∙◌, ap, subst, arith, rules, refl, inl, inr}
+use Rattle.std.proofs.Common.{[], sym, ◌∙◌, ap, arith, refl, inr}
 use Rattle.bk_disk.specs.Stops.{front_of}
-use Rattle.bk_disk.specs.Told.{listing}
-use Rattle.bk_memdisk.specs.declared.changes.Change.TheVariants.{Made, Placed, Renamed, Removed}
-use Rattle.bk_memdisk.specs.declared.files.MemFile.{MemFile}
-use Rattle.bk_memdisk.specs.Contents.{Contents, room_of, placed}
-use Rattle.bk_memdisk.specs.Journal.{Kept, made, whole, after_all}
-use Rattle.bk_memdisk.specs.Fits.{owed}
+use Rattle.bk_memdisk.specs.declared.changes.Change.TheVariants.{Placed}
+use Rattle.bk_memdisk.specs.Contents.{placed}
+use Rattle.bk_memdisk.specs.Journal.{whole, after_all}
 use Rattle.bk_memdisk.proofs.Edits
 use Rattle.bk_memdisk.proofs.Listings
-use Rattle.bk_memdisk.proofs.Places.{found, at-not_found}
+use Rattle.bk_memdisk.proofs.Places.{found}
 use Rattle.bk_memdisk.proofs.directory.Directory.place.Goals as goal
 
 pub returns-in_default-clause-ok : goal.returns-in_default-clause-ok
@@ -34,7 +31,7 @@ invariant_of-self-in_default c =
     record {
       tied = rw c.in_ok-push.ensures.items (Listings.added_tied c.args.name c.self.inside.files.items c.self.inside.journal.items c.push_reserved.new.self.items c.of-place.result (whole c.args.bytes.items) (Placed c.args.name c.args.copy) c.self.invariant.tied absent more c.of-place.ensures.name c.of-place.ensures.fits (inr word));
       reserved = rw c.in_ok-push.ensures.items (omega (arith, sums, c.of-place.ensures.owed));
-      room = omega (arith, c.in_ok-reserve.ensures.ok, c.push_reserved.ensures.len, c.push_reserved.ensures.capacity)
+      room = omega (arith, c.in_ok-reserve.ensures.ok, c.push_reserved.ensures.len, c.push_reserved.ensures.capacity);
     }
 
 pub invariant_of-self-2 : goal.invariant_of-self-2
@@ -47,5 +44,5 @@ invariant_of-self-2 c =
     record {
       tied = Listings.replaced_tied c.args.name c.self.inside.files.items c.self.inside.journal.items c.push_reserved-2.new.self.items c.in-Some.index c.index_mut-file.result.now c.of-place.result (Placed c.args.name c.args.copy) (whole c.args.bytes.items) c.self.invariant.tied first c.index_mut-file.ensures.value more c.of-place.ensures.name c.of-place.ensures.fits word;
       reserved = rw c.owed.ensures.value (omega (arith, sums, c.of-place.ensures.owed));
-      room = omega (arith, c.in_ok-reserve.ensures.ok, c.push_reserved-2.ensures.len, c.push_reserved-2.ensures.capacity)
+      room = omega (arith, c.in_ok-reserve.ensures.ok, c.push_reserved-2.ensures.len, c.push_reserved-2.ensures.capacity);
     }

@@ -1,9 +1,7 @@
-use Rattle.std.proofs.Common.{◌≡◌, ℕ, ◌+◌, ◌-◌, ◌<◌, ◌≤◌, List, [], length, true, false, sym, ◌∙◌, ap, subst, arith, rules, refl}
-use Rattle.bk_disk.specs.Told.{IsOurs, IsLent, CutsWithin}
-use Rattle.bk_memdisk.specs.declared.files.MemFile.{MemFile}
+use Rattle.std.proofs.Common.{[], false, sym, ◌∙◌, ap, subst, arith, refl}
+use Rattle.bk_disk.specs.Told.{IsOurs}
 use Rattle.bk_memdisk.specs.Contents.{Contents, room_of}
-use Rattle.bk_memdisk.specs.Journal.{Kept, handed, synced, returned, after_all}
-use Rattle.bk_memdisk.specs.Fits.{owed}
+use Rattle.bk_memdisk.specs.Journal.{after_all}
 use Rattle.bk_memdisk.proofs.Edits
 use Rattle.bk_memdisk.proofs.directory.Directory.ready.Goals as goal
 
@@ -31,7 +29,7 @@ invariant_of-self-in_err-ready c =
     record {
       tied = rw c.reserve.ensures.items (Edits.set_tied c.self.inside.files.items c.place_of-index.result c.index_mut-file.result.now below c.index_mut-file.ensures.value c.ready.new.self (after_all [] c.self.inside.journal.items) c.self.invariant.tied c.ready.ensures.name c.ready.ensures.fits);
       reserved = Edits.same_owed c.self.inside.files.items c.place_of-index.result c.index_mut-file.result.now below c.index_mut-file.ensures.value c.ready.new.self c.self.inside.reserved (Edits.owed_from c.index_mut-file.result.now c.ready.new.self c.in_err-ready.ensures.err c.ready.ensures.others) c.self.invariant.reserved;
-      room = omega (arith, c.reserve.ensures.len, c.reserve.ensures.capacity, c.self.invariant.room)
+      room = omega (arith, c.reserve.ensures.len, c.reserve.ensures.capacity, c.self.invariant.room);
     }
 
 pub returns-in_err-ready-clause-enough : goal.returns-in_err-ready-clause-enough
@@ -58,7 +56,7 @@ invariant_of-self-2 c =
     record {
       tied = rw c.reserve.ensures.items (Edits.set_tied c.self.inside.files.items c.place_of-index.result c.index_mut-file.result.now below c.index_mut-file.ensures.value c.ready.new.self (after_all [] c.self.inside.journal.items) c.self.invariant.tied c.ready.ensures.name c.ready.ensures.fits);
       reserved = rw (c.owed-before.ensures.value, c.owed-now.ensures.value) (Edits.owed_set c.self.inside.files.items c.place_of-index.result c.index_mut-file.result.now below c.index_mut-file.ensures.value c.ready.new.self c.self.inside.reserved c.self.invariant.reserved);
-      room = omega (arith, within, more, c.owed-before.ensures.value, c.owed-now.ensures.value, c.in_ok-reserve.ensures.ok, c.reserve.ensures.len, c.self.invariant.room, c.self.invariant.reserved)
+      room = omega (arith, within, more, c.owed-before.ensures.value, c.owed-now.ensures.value, c.in_ok-reserve.ensures.ok, c.reserve.ensures.len, c.self.invariant.room, c.self.invariant.reserved);
     }
 
 pub returns-clause-room : goal.returns-clause-room

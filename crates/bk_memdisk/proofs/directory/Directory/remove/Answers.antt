@@ -1,9 +1,5 @@
-use Rattle.std.proofs.Common.{◌≡◌, ℕ, ◌+◌, ◌-◌, ◌<◌, ◌≤◌, List, [], length, true, false, sym, ◌∙◌, ap, subst, arith, rules, refl, inl, inr}
-use Rattle.bk_memdisk.specs.declared.changes.Change.TheVariants.{Made, Placed, Renamed, Removed}
-use Rattle.bk_memdisk.specs.declared.files.MemFile.{MemFile}
-use Rattle.bk_memdisk.specs.Contents.{Contents, room_of}
-use Rattle.bk_memdisk.specs.Journal.{Kept, made, whole, after_all}
-use Rattle.bk_memdisk.specs.Fits.{owed}
+use Rattle.std.proofs.Common.{sym, ◌∙◌, arith, refl}
+use Rattle.bk_memdisk.specs.declared.changes.Change.TheVariants.{Removed}
 use Rattle.bk_memdisk.proofs.Edits
 use Rattle.bk_memdisk.proofs.Listings
 use Rattle.bk_memdisk.proofs.Places.{found}
@@ -29,7 +25,7 @@ invariant_of-self-2 c =
     record {
       tied = rw c.remove-file.ensures.items (Listings.gone_tied c.args.name c.self.inside.files.items c.self.inside.journal.items c.push_reserved.new.self.items c.in-Some.index (Removed c.args.name) c.self.invariant.tied first more refl);
       reserved = rw (c.remove-file.ensures.items, c.owed.ensures.value) (Listings.owed_removed c.self.inside.files.items c.in-Some.index c.remove-file.result c.self.inside.reserved below c.remove-file.ensures.value c.self.invariant.reserved);
-      room = omega (arith, within, c.owed.ensures.value, c.in_ok-reserve.ensures.ok, c.push_reserved.ensures.len, c.push_reserved.ensures.capacity, c.self.invariant.reserved)
+      room = omega (arith, within, c.owed.ensures.value, c.in_ok-reserve.ensures.ok, c.push_reserved.ensures.len, c.push_reserved.ensures.capacity, c.self.invariant.reserved);
     }
 
 pub returns-clause-ok : goal.returns-clause-ok

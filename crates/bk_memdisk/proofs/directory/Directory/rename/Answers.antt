@@ -1,9 +1,5 @@
-use Rattle.std.proofs.Common.{◌≡◌, ℕ, ◌+◌, ◌-◌, ◌<◌, ◌≤◌, List, [], length, true, false, sym, ◌∙◌, ap, subst, arith, rules, refl, inl, inr}
-use Rattle.bk_memdisk.specs.declared.changes.Change.TheVariants.{Made, Placed, Renamed, Removed}
-use Rattle.bk_memdisk.specs.declared.files.MemFile.{MemFile}
-use Rattle.bk_memdisk.specs.Contents.{Contents, room_of}
-use Rattle.bk_memdisk.specs.Journal.{Kept, made, whole, after_all}
-use Rattle.bk_memdisk.specs.Fits.{owed}
+use Rattle.std.proofs.Common.{sym, ◌∙◌, arith, refl}
+use Rattle.bk_memdisk.specs.declared.changes.Change.TheVariants.{Renamed}
 use Rattle.bk_memdisk.proofs.Edits
 use Rattle.bk_memdisk.proofs.Listings
 use Rattle.bk_memdisk.proofs.Places.{found}
@@ -22,7 +18,7 @@ invariant_of-self-2 c =
     record {
       tied = Listings.moved_tied c.args.from c.args.to c.self.inside.files.items c.self.inside.journal.items c.push_reserved.new.self.items c.in-Some.index c.index_mut-file.result.now c.rename.new.self (Renamed c.args.from c.args.to) c.self.invariant.tied first c.index_mut-file.ensures.value more c.rename.ensures.name c.rename.ensures.fits refl;
       reserved = Edits.same_owed c.self.inside.files.items c.in-Some.index c.index_mut-file.result.now below c.index_mut-file.ensures.value c.rename.new.self c.self.inside.reserved c.rename.ensures.owed c.self.invariant.reserved;
-      room = omega (arith, c.in_ok-reserve.ensures.ok, c.push_reserved.ensures.len, c.push_reserved.ensures.capacity)
+      room = omega (arith, c.in_ok-reserve.ensures.ok, c.push_reserved.ensures.len, c.push_reserved.ensures.capacity);
     }
 
 pub returns-clause-ok : goal.returns-clause-ok

@@ -1,9 +1,5 @@
-use Rattle.std.proofs.Common.{◌≡◌, ℕ, ◌+◌, ◌-◌, ◌<◌, ◌≤◌, List, [], length, true, false, sym, ◌∙◌, ap, subst, arith, rules, refl}
-use Rattle.bk_disk.specs.Told.{IsOurs, IsLent, CutsWithin}
-use Rattle.bk_memdisk.specs.declared.files.MemFile.{MemFile}
-use Rattle.bk_memdisk.specs.Contents.{Contents, room_of}
-use Rattle.bk_memdisk.specs.Journal.{Kept, handed, synced, returned, after_all}
-use Rattle.bk_memdisk.specs.Fits.{owed}
+use Rattle.std.proofs.Common.{[], length, arith}
+use Rattle.bk_memdisk.specs.Journal.{synced, after_all}
 use Rattle.bk_memdisk.proofs.Edits
 use Rattle.bk_memdisk.proofs.directory.Directory.sync.Goals as goal
 
@@ -20,7 +16,7 @@ invariant_of-self-2 c =
     record {
       tied = Edits.edited_tied c.args.name c.self.inside.files.items c.self.inside.journal.items c.push_reserved.new.self.items c.place_of-index.result c.index_mut-file.result.now c.sync-change.new.self c.sync-change.result (synced (length c.index_mut-file.result.now.bytes.items)) c.self.invariant.tied first c.index_mut-file.ensures.value c.push_reserved.ensures.items c.sync-change.ensures.name c.sync-change.ensures.fits (c.sync-change.ensures.change (after_all [] c.self.inside.journal.items));
       reserved = Edits.one_less c.self.inside.files.items c.place_of-index.result c.index_mut-file.result.now below c.index_mut-file.ensures.value c.sync-change.new.self c.self.inside.reserved less c.self.invariant.reserved;
-      room = omega (arith, c.push_reserved.ensures.len, c.push_reserved.ensures.capacity, c.self.invariant.room)
+      room = omega (arith, c.push_reserved.ensures.len, c.push_reserved.ensures.capacity, c.self.invariant.room);
     }
 
 pub returns-clause-told : goal.returns-clause-told

@@ -1,5 +1,3 @@
-use Rattle.std.proofs.Common.{refl, true, false, min, length}
-use Rattle.bk_disk.specs.Calls.{Made, Removed}
 use Rattle.bk_disk.proofs.Still.{still_returned}
 use Rattle.bk_memdisk.proofs.disks.MemDiskDisk.adopt.Goals as goal
 

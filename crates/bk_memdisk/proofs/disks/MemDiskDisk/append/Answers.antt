@@ -1,5 +1,4 @@
-use Rattle.std.proofs.Common.{refl, true, false, min, length}
-use Rattle.bk_disk.specs.Calls.{Made, Removed}
+use Rattle.std.proofs.Common.{length}
 use Rattle.bk_disk.proofs.Still.{still_appended}
 use Rattle.bk_memdisk.proofs.disks.MemDiskDisk.append.Goals as goal
 

@@ -1,5 +1,5 @@
-use Rattle.std.proofs.Common.{refl, true, false, min, length}
-use Rattle.bk_disk.specs.Calls.{Made, Removed}
+use Rattle.std.proofs.Common.{true}
+use Rattle.bk_disk.specs.Calls.{Made}
 use Rattle.bk_disk.proofs.Still.{still_made}
 use Rattle.bk_memdisk.proofs.Either.{still_either}
 use Rattle.bk_memdisk.proofs.disks.MemDiskDisk.lend.Goals as goal

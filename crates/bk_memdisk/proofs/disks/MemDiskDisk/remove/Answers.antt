@@ -1,5 +1,4 @@
-use Rattle.std.proofs.Common.{refl, true, false, min, length}
-use Rattle.bk_disk.specs.Calls.{Made, Removed}
+use Rattle.bk_disk.specs.Calls.{Removed}
 use Rattle.bk_disk.proofs.Still.{still_removed}
 use Rattle.bk_memdisk.proofs.Either.{still_either}
 use Rattle.bk_memdisk.proofs.disks.MemDiskDisk.remove.Goals as goal

@@ -1,8 +1,6 @@
-use Rattle.std.proofs.Common.{◌≡◌, ℕ, min, length, List, take, drop, arith, []}
+use Rattle.std.proofs.Common.{arith}
 use Rattle.std.proofs.lemmas.List.{take_all, drop_all}
-use Rattle.bk_memdisk.specs.declared.plans.Chosen.{Chosen}
-use Rattle.bk_memdisk.specs.Chosen.{pairs_of}
-use Rattle.bk_memdisk.proofs.Choices.{pairs_split}
+use Rattle.bk_memdisk.proofs.Effects.{pairs_split}
 use Rattle.bk_memdisk.proofs.plans.Plan.fuse.Goals as goal
 
 pub returns : goal.returns

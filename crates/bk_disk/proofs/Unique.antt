@@ -1,5 +1,5 @@
 -- The test that each name stands once says so.
-use Rattle.std.proofs.Common.{◌≡◌, Bool, true, false, not, ◌&&◌, ◌||◌, IsTrue, List, [], ◌∷◌, refl, sym, ◌∙◌, ap, arith, subst, inl, inr}
+use Rattle.std.proofs.Common.{◌≡◌, true, false, IsTrue, List, [], ◌∷◌, refl, ◌∙◌, ap, arith, inl, inr}
 use Rattle.std.proofs.lemmas.Bool.{cases_Bool}
 use Rattle.bk_base.specs.declared.names.Name.{Name}
 use Rattle.bk_disk.specs.Names.{same}
@@ -31,7 +31,7 @@ same_from [] (n ∷ ns) h = absurd (cc h)
 same_from (m ∷ ms) [] h = absurd (cc h)
 same_from (m ∷ ms) (n ∷ ns) h =
     elim (cases_Bool (same m n)) [
-        inl p ↦ ap (λ k. k ∷ ms) (same_eq m n p) ∙ ap (λ ks. n ∷ ks) (same_from ms ns (grind (arith, p, h)))
+      | inl p ↦ ap (λ k. k ∷ ms) (same_eq m n p) ∙ ap (λ ks. n ∷ ks) (same_from ms ns (grind (arith, p, h)))
       | inr p ↦ absurd (grind (arith, p, h))
     ]
 
@@ -42,10 +42,9 @@ same_all (n ∷ ns) = rw (same_refl n) (same_all ns)
 pub from_test : (t : Told) → IsTrue (is_well t) → IsWell t
 from_test t h =
     elim (cases_Bool (are_once (names t.image))) [
-        inl p ↦ record { once = once_from (names t.image) p; paired = same_from (names t.fronts) (names t.image) (grind (arith, p, h)) }
+      | inl p ↦ record { once = once_from (names t.image) p; paired = same_from (names t.fronts) (names t.image) (grind (arith, p, h)) }
       | inr p ↦ absurd (grind (arith, p, h))
     ]
 
 pub to_test : (t : Told) → IsWell t → IsTrue (is_well t)
 to_test t w = rw (once_to (names t.image) w.once, w.paired) (same_all (names t.image))
-

@@ -1,7 +1,6 @@
 -- Which calls fail: the last choice of a call counts.
-use Rattle.std.proofs.Common.{◌≡◌, ℕ, ◌+◌, ◌<◌, ◌≤◌, ◌==◌, cond, List, [], ◌∷◌, ◌++◌, length, take, drop, map, get_or, refl, sym, ◌∙◌, ap, arith}
-use Rattle.std.proofs.lemmas.List.{map-append, take-append-drop, take_all, drop_all, take_more}
-use Rattle.std.specs.declared.option.Option.{Option}
+use Rattle.std.proofs.Common.{◌≡◌, ℕ, ◌+◌, ◌<◌, ◌==◌, cond, List, [], ◌∷◌, ◌++◌, length, take, drop, get_or, sym, ◌∙◌, ap, arith}
+use Rattle.std.proofs.lemmas.List.{map-append, take-append-drop, take_more}
 use Rattle.std.specs.declared.option.Option.TheVariants.{None, Some}
 use Rattle.bk_memdisk.specs.declared.plans.Chosen.{Chosen}
 use Rattle.bk_memdisk.specs.Plans.{effect_of, or_else}
