@@ -38,8 +38,7 @@ impl<R: Files<File = File> + Alloc<A = Global> + Clone + Drop> OsDisk<R> {
 
 impl<R: Files<File = File> + Alloc<A = Global> + Clone + Drop> Disk for OsDisk<R> {
     ghost use Rattle.std.specs.Prelude.{false, []};
-    ghost use Rattle.bk_disk.specs.Told.{nothing_told};
-    ghost use Rattle.bk_disk.specs.Told.{untold};
+    ghost use Rattle.bk_disk.specs.Told.{nothing_told, untold};
 
     type View = OsView;
 

@@ -1,6 +1,7 @@
 //! How an adapter counts its faults.
 ghost use Rattle.std.specs.Prelude.{◌≡◌, ◌≤◌, Ok, IfOk, OnOk};
 ghost use Rattle.bk_disk.specs.Causes.{Rose, IsCaused, HasCause};
+ghost use Rattle.bk_osdisk.specs.declared.faults.Trouble.TheVariants.{Memory as memory, Fault as fault};
 
 use bk_base::Memory;
 use bk_disk::{DiskError, Failed};
@@ -17,24 +18,32 @@ pub(crate) enum Trouble {
 }
 
 impl From<Memory> for Trouble {
+    ghost from_gives = { λ _ trouble. trouble ≡ memory };
+
     fn from(_: Memory) -> Trouble {
         Trouble::Memory
     }
 }
 
 impl From<AllocError> for Trouble {
+    ghost from_gives = { λ _ trouble. trouble ≡ memory };
+
     fn from(_: AllocError) -> Trouble {
         Trouble::Memory
     }
 }
 
 impl<T: Drop> From<AllocFailed<T>> for Trouble {
+    ghost from_gives = { λ _ trouble. trouble ≡ memory };
+
     fn from(_: AllocFailed<T>) -> Trouble {
         Trouble::Memory
     }
 }
 
 impl From<io::Error> for Trouble {
+    ghost from_gives = { λ _ trouble. trouble ≡ fault };
+
     fn from(_: io::Error) -> Trouble {
         Trouble::Fault
     }

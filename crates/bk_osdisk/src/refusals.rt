@@ -1,5 +1,4 @@
 //! Why a folder can't be used as a disk.
-use bk_base::Memory;
 use thiserror::Error;
 
 /// Why a folder can't be used as a disk. The text is the word that a program prints.
@@ -14,10 +13,4 @@ pub enum OsRefused {
     /// An allocation was refused.
     #[error("memory")]
     Memory,
-}
-
-impl From<Memory> for OsRefused {
-    fn from(_: Memory) -> OsRefused {
-        OsRefused::Memory
-    }
 }
