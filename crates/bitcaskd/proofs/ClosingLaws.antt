@@ -1,8 +1,7 @@
 -- From the end of the talk, over the last sync, to what the whole run did.
-use Rattle.std.proofs.Common.{◌≡◌, ◌∙◌, ℕ, ◌+◌, ◌-◌, ◌<◌, ◌≤◌, min, max, List, [], ◌∷◌, ◌++◌, length, drop, Bool, Option, None, ◌⊎◌, refl, sym, ap, subst, arith, inl, inr, false, IsTrue}
+use Rattle.std.proofs.Common.{◌≡◌, ◌∙◌, ℕ, ◌-◌, ◌≤◌, List, [], ◌∷◌, ◌++◌, length, drop, Bool, ◌⊎◌, refl, sym, ap, subst, arith, inl, inr, false, IsTrue}
 use Rattle.std.proofs.lemmas.List.{append-nil}
 use Rattle.std.proofs.lemmas.Bool.{cases_lt}
-use Rattle.bk_base.specs.declared.numbers.Seq.{Seq}
 use Rattle.bk_base.specs.declared.calls.Call.TheVariants.{Sync, Quiet}
 use Rattle.bk_base.specs.declared.calls.Answer.TheVariants.{Numbered, Done as done_answer}
 use Rattle.bk_base.specs.declared.histories.Opening.{Opening}
@@ -17,12 +16,12 @@ use Rattle.bk_laws.specs.Session.{all_turns, steps_of, replies_of}
 use Rattle.bitcaskd.specs.Closing.{ClosesBy, IsSyncedAt}
 use Rattle.bitcaskd.specs.Counts.{Counted}
 use Rattle.bitcaskd.specs.Run.{Telling, Outside, IsBuilt, Reads, Writes, Closes, TakesMost, all_steps, Runs}
-use Rattle.bitcaskd.specs.Serving.{Site, Leads}
-use Rattle.bitcaskd.specs.Store.{Holds, Stands, IsImageOf}
+use Rattle.bitcaskd.specs.Serving.{Site}
+use Rattle.bitcaskd.specs.Store.{Stands, IsImageOf}
 use Rattle.bitcaskd.specs.Talking.{Scene, outside_of, LeadTo, StandsAfter, LeftAfter, CountedOver, EndsAt, Stopped}
 use Rattle.bitcaskd.proofs.StoreLaws.{image_of}
 use Rattle.bitcaskd.proofs.ServingLaws.{no_glance, step_of}
-use Rattle.bitcaskd.proofs.TalkingLaws.{at_site, leads_on, counts_on, whole_talk}
+use Rattle.bitcaskd.proofs.TalkingLaws.{at_site, leads_on, counts_on}
 
 opening_of : Scene → Opening
 opening_of start = record {

@@ -1,5 +1,5 @@
 -- The words of a run.
-use Rattle.std.proofs.Common.{◌≡◌, ◌∙◌, ℕ, ◌<◌, ◌≤◌, List, [], ◌∷◌, length, get_or, ap, sym, refl, arith}
+use Rattle.std.proofs.Common.{◌≡◌, ◌<◌, ◌≤◌, List, [], ◌∷◌, length, get_or, arith}
 
 -- a list of two
 pub two_words : {A : Type 0} (xs : List A) (v d : A) → 2 ≤ length xs → length xs < 3 → v ≡ get_or xs 0 v → d ≡ get_or xs 1 d → xs ≡ v ∷ d ∷ []

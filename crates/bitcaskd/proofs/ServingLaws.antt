@@ -1,5 +1,5 @@
 -- What serving a request adds to the history.
-use Rattle.std.proofs.Common.{◌≡◌, ◌∙◌, ℕ, ◌+◌, ◌-◌, ◌*◌, ◌<◌, ◌≤◌, List, [], ◌∷◌, ◌++◌, length, Bool, true, false, Option, Some, None, ◌⊎◌, refl, sym, ap, subst, arith, inl, inr, IsTrue}
+use Rattle.std.proofs.Common.{◌≡◌, ℕ, ◌+◌, ◌-◌, ◌*◌, ◌≤◌, List, [], ◌∷◌, ◌++◌, length, Bool, false, Option, Some, None, refl, sym, arith, inl, inr, IsTrue}
 use Rattle.std.proofs.lemmas.List.{length-append}
 use Rattle.bk_base.specs.declared.numbers.Moment.{Moment}
 use Rattle.bk_base.specs.declared.numbers.Seq.{Seq}
@@ -15,15 +15,12 @@ use Rattle.bk_base.specs.declared.requests.Reply.{Reply}
 use Rattle.bk_base.specs.declared.requests.Reply.TheVariants.{Numbered}
 use Rattle.bk_base.specs.declared.writes.Write.{Write}
 use Rattle.bk_disk.specs.Streams.{first_moment, later_moments}
-use Rattle.bk_disk.specs.Told.{Told}
-use Rattle.bk_laws.specs.Log.{live, next_seq}
-use Rattle.bk_laws.specs.History.{IsReply, after}
+use Rattle.bk_laws.specs.Log.{live}
 use Rattle.bk_laws.specs.Session.{ShowsGet, Serves, call_of, named}
 use Rattle.bk_laws.specs.Wire.{request_text}
-use Rattle.bitcaskd.specs.declared.index.Index.{Index}
 use Rattle.bitcaskd.specs.Counts.{Counted, Counts}
-use Rattle.bitcaskd.specs.Serving.{Site, plain, Leads, GoesOn, Leaves, CountsOn, Served, Refused}
-use Rattle.bitcaskd.specs.Store.{Holds, IsImageOf, PutDone, PutRefused, GetDone, put_of}
+use Rattle.bitcaskd.specs.Serving.{Site, Leads, Served, Refused}
+use Rattle.bitcaskd.specs.Store.{Holds, IsImageOf, PutDone, GetDone, put_of}
 use Rattle.bitcaskd.proofs.StoreLaws.{kept, image_of}
 
 -- the first path keeps no rows and no merges: its glances are empty

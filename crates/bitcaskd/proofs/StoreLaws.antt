@@ -1,9 +1,8 @@
 -- What one more record does to the file, the log and the table.
-use Rattle.std.proofs.Common.{◌≡◌, ◌∙◌, ℕ, ◌+◌, ◌-◌, ◌<◌, ◌≤◌, zero, suc, List, [], ◌∷◌, ◌++◌, length, take, drop, map, Bool, true, false, cond, unwrap_or, Option, Some, None, Result, Ok, Err, OnErr, OnOk, IfOk, ◌⊎◌, refl, sym, ap, subst, arith, inl, inr, append_assoc, IsSome, IsSomeAnd}
+use Rattle.std.proofs.Common.{◌≡◌, ◌∙◌, ℕ, ◌+◌, ◌-◌, ◌≤◌, List, [], ◌∷◌, ◌++◌, length, take, drop, map, Bool, true, false, cond, unwrap_or, Option, Some, None, Result, Ok, Err, OnErr, refl, sym, ap, subst, arith, inl, inr, append_assoc, IsSome, IsSomeAnd}
 use Rattle.std.proofs.lemmas.Grind.{common_steps}
 use Rattle.std.specs.Int.{w32, to_be_bytes}
 use Rattle.std.specs.Str.{bytes_eq}
-use Rattle.std.specs.List.{flat_map}
 use Rattle.std.proofs.lemmas.List.Concat.{flat_map-append}
 use Rattle.std.proofs.lemmas.List.{append-nil, take-append-le, take-take, drop-append-le, length-append, length-drop}
 use Rattle.std.proofs.lemmas.List.{length-take-le}
@@ -18,11 +17,11 @@ use Rattle.bk_disk.specs.Told.{Table, Image, Front, Told, IsWell, names, changed
 use Rattle.bk_disk.specs.Calls.{Appended, Synced, all_safe, fresh, handed_more}
 use Rattle.bk_disk.specs.Names.{same}
 use Rattle.bk_disk.specs.Stops.{IsSynced, front_of}
-use Rattle.bk_laws.specs.Log.{winner, or_else, seq_after, last_seq, next_seq, live}
-use Rattle.bk_laws.specs.Record.{record_of, records_of, covered_of, fields_of, checksum_of, value_of, size_of}
+use Rattle.bk_laws.specs.Log.{winner, or_else, seq_after}
+use Rattle.bk_laws.specs.Record.{record_of, records_of, covered_of, fields_of, checksum_of, size_of}
 use Rattle.bitcaskd.specs.declared.index.Index.{Index}
 use Rattle.bitcaskd.specs.Index.{look, AddsPlace, SamePlaces}
-use Rattle.bitcaskd.specs.Store.{data_name, files_of, HasValueAt, PlaceStands, Holds, IsImageOf, AppendsPart, GetDone, put_of}
+use Rattle.bitcaskd.specs.Store.{data_name, files_of, HasValueAt, PlaceStands, Holds, IsImageOf, AppendsPart, put_of}
 
 -- whatever a call answered, a fact of its refusal
 pub on_err : {T E : Type 0} {P : Type 0} (r : Result T E) → P → OnErr r P

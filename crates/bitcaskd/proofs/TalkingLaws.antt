@@ -1,5 +1,5 @@
 -- How a run comes from one request to the next, and to its end.
-use Rattle.std.proofs.Common.{◌≡◌, ◌∙◌, ℕ, ◌+◌, ◌-◌, ◌*◌, ◌<◌, ◌≤◌, min, List, [], ◌∷◌, ◌++◌, length, map, drop, take, fold, sum_by, Bool, true, false, Option, Some, None, MatchOption, is_some, not, ◌⊎◌, refl, sym, ap, subst, arith, inl, inr, append_assoc, IsTrue}
+use Rattle.std.proofs.Common.{◌≡◌, ◌∙◌, ℕ, ◌+◌, ◌<◌, ◌≤◌, List, [], ◌∷◌, ◌++◌, length, map, drop, take, fold, sum_by, Bool, true, false, Option, Some, None, MatchOption, is_some, not, refl, sym, ap, subst, arith, inl, inr, append_assoc, IsTrue}
 use Rattle.std.specs.List.{AllByRecursion, flat_map}
 use Rattle.std.proofs.lemmas.List.{append-nil, length-append}
 use Rattle.std.proofs.lemmas.List.Concat.{flat_map-append}
@@ -15,8 +15,8 @@ use Rattle.bk_base.specs.declared.writes.Write.{Write}
 use Rattle.bk_disk.specs.Causes.{Rose, most}
 use Rattle.bk_disk.specs.Streams.{Takes, first_moment, later_moments}
 use Rattle.bk_laws.specs.History.{State, IsReply, IsLegal, after, state_of, entries}
-use Rattle.bk_laws.specs.Session.{Turn, IsTurn, IsCutOff, Talk, IsTalk, all_turns, requests_of, replies_of, steps_of, moments_of}
-use Rattle.bk_laws.specs.Wire.{Fits, request_text, reply_text, StandsIn, NoneStands, IsBad, IsPartial}
+use Rattle.bk_laws.specs.Session.{Turn, IsTurn, Talk, IsTalk, all_turns, requests_of, replies_of, steps_of, moments_of}
+use Rattle.bk_laws.specs.Wire.{Fits, request_text, reply_text, StandsIn, IsBad, IsPartial}
 use Rattle.std.proofs.Math.Seq.{drop-drop}
 use Rattle.std.proofs.lemmas.List.{take-append-drop}
 use Rattle.std.proofs.lemmas.Grind.{common_steps}
@@ -27,10 +27,10 @@ use Rattle.bitcaskd.specs.declared.input.Input.TheVariants.{Taken, Ended, Long a
 use Rattle.bitcaskd.specs.declared.refusals.Refusal.{Refusal}
 use Rattle.bitcaskd.specs.declared.refusals.Refusal.TheVariants.{Memory as refused_memory, Disk as refused_disk}
 use Rattle.bitcaskd.specs.Counts.{Counted}
-use Rattle.bitcaskd.specs.Output.{LeftOver, Wrote}
+use Rattle.bitcaskd.specs.Output.{Wrote}
 use Rattle.bitcaskd.specs.Run.{Telling, telling, Reads, Writes, WrittenPart, TakesMost, most_taken, faults_in, views_in}
 use Rattle.bitcaskd.specs.Serving.{Site, Ticks, plain, Leads, Answered, Refused}
-use Rattle.bitcaskd.specs.Store.{Holds, IsImageOf}
+use Rattle.bitcaskd.specs.Store.{Holds}
 use Rattle.bitcaskd.specs.Talking.{Scene, LeadTo, StandsAfter, LeftAfter, CountedOver, SoFar, status_of, EndsAt, Stopped, MovesOut, FailsOut, WritesSome, Flushed, Inlet, TakesPiece, Gives, Asks, Turns, after_input, StopsAtBad, work_left, scene_of}
 use Rattle.bitcaskd.proofs.StoreLaws.{image_of}
 

@@ -1,12 +1,11 @@
 -- What one run of `pipe` does, from the bytes of its source to the bytes of its sink.
-use Rattle.std.specs.Prelude.{◌≡◌, ◌≢◌, ◌⊎◌, ℕ, ◌+◌, ◌<◌, ◌≤◌, List, [], ◌∷◌, ◌++◌, Bool, IsTrue, length, drop, map, sum_by, codes}
+use Rattle.std.specs.Prelude.{◌≡◌, ◌≢◌, ◌⊎◌, ℕ, ◌+◌, ◌<◌, ◌≤◌, List, [], ◌∷◌, ◌++◌, Bool, IsTrue, length, drop, sum_by, codes}
 use Rattle.bk_base.specs.declared.numbers.Moment.{Moment}
 use Rattle.bk_base.specs.declared.histories.Opening.{Opening}
 use Rattle.bk_base.specs.declared.histories.Step.{Step}
-use Rattle.bk_base.specs.declared.calls.Entry.{Entry}
 use Rattle.bk_base.specs.declared.calls.Call.TheVariants.{Sync, Quiet}
 use Rattle.bk_base.specs.declared.statuses.Status.{Status}
-use Rattle.bk_base.specs.declared.statuses.Status.TheVariants.{Done, Memory, Words, Disk, Source, Sink, Syntax, Settings, Damaged, Full, Long, NotBuilt, Door}
+use Rattle.bk_base.specs.declared.statuses.Status.TheVariants.{Done, Memory, Disk, Source, Sink, Long, NotBuilt}
 use Rattle.bk_base.specs.declared.writes.Write.{Write}
 use Rattle.bk_disk.specs.Causes.{Rose}
 use Rattle.bk_disk.specs.Stops.{IsSynced}

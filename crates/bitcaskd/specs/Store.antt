@@ -1,5 +1,5 @@
 -- What the store's file and table say of a log.
-use Rattle.std.specs.Prelude.{◌≡◌, ℕ, ◌+◌, ◌<◌, ◌≤◌, List, [], ◌∷◌, ◌++◌, ◌⊎◌, Bool, true, false, Option, None, Some, length, take, drop, cond, map}
+use Rattle.std.specs.Prelude.{◌≡◌, ℕ, ◌+◌, ◌≤◌, List, [], ◌∷◌, ◌++◌, ◌⊎◌, Bool, true, false, Option, None, Some, length, take, drop}
 use Rattle.bk_base.specs.declared.names.Name.{Name}
 use Rattle.bk_base.specs.declared.names.Kind.TheVariants.{Main}
 use Rattle.bk_base.specs.declared.numbers.Moment.{Moment}

@@ -1,4 +1,4 @@
-use Rattle.std.proofs.Common.{◌≡◌, ◌∙◌, ◌+◌, ◌<◌, ap, sym, arith, length, List, ℕ, take}
+use Rattle.std.proofs.Common.{◌≡◌, ◌∙◌, ◌+◌, ap, sym, arith, length, ℕ, take}
 use Rattle.std.proofs.lemmas.List.{length-take-le}
 use Rattle.bk_wire.specs.Stream.{Stream}
 use Rattle.bitcaskd.proofs.TalkingLaws.{took_piece}

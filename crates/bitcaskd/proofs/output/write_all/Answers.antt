@@ -1,4 +1,4 @@
-use Rattle.std.proofs.Common.{◌≡◌, ◌∙◌, ◌-◌, ◌++◌, ap, sym, arith, append_assoc, length, List, ℕ, take, drop}
+use Rattle.std.proofs.Common.{◌∙◌, ◌-◌, ◌++◌, ap, sym, arith, append_assoc, length, List, ℕ, take, drop}
 use Rattle.std.proofs.lemmas.List.{take-append-drop, take-take, length-take, length-drop}
 use Rattle.std.proofs.Math.Seq.{take-add}
 use Rattle.bitcaskd.specs.Output.{LeftOver}

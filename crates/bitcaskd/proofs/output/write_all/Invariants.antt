@@ -1,4 +1,4 @@
-use Rattle.std.proofs.Common.{◌≡◌, ◌+◌, ◌-◌, ◌≤◌, ◌++◌, length, take, IsTrue}
+use Rattle.std.proofs.Common.{◌≡◌, ◌-◌, ◌≤◌, ◌++◌, length, take, IsTrue}
 use Rattle.bitcaskd.proofs.output.write_all.Given as goal
 
 abbrev pub invariant-loop-at : goal.invariant-loop-at

@@ -1,4 +1,4 @@
-use Rattle.std.proofs.Common.{◌≡◌, inr, arith}
+use Rattle.std.proofs.Common.{inr, arith}
 use Rattle.bitcaskd.proofs.ClosingLaws.{from_before}
 use Rattle.bitcaskd.proofs.run.over_disk.Goals as goal
 

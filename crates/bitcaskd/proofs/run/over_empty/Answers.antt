@@ -1,5 +1,4 @@
-use Rattle.std.proofs.Common.{◌≡◌, ◌∙◌, ap, sym, refl}
-use Rattle.bk_disk.specs.Told.{Told}
+use Rattle.std.proofs.Common.{◌∙◌, ap, refl}
 use Rattle.bitcaskd.specs.Talking.{site_of}
 use Rattle.bitcaskd.proofs.StoreLaws.{fresh_holds}
 use Rattle.bitcaskd.proofs.ClosingLaws.{closed}

@@ -1,12 +1,9 @@
-use Rattle.std.proofs.Common.{◌≡◌, ◌∙◌, ◌+◌, ◌*◌, ◌≤◌, ◌<◌, ℕ, List, [], ◌∷◌, Option, Some, None, length, ap, sym, refl, subst, arith, IsTrue, inl}
+use Rattle.std.proofs.Common.{ℕ, List, [], ◌∷◌, Option, length, ap, sym, refl, subst, arith, inl}
 use Rattle.bk_base.specs.declared.requests.Request.{Request}
-use Rattle.bk_base.specs.declared.requests.Request.TheVariants.{Get, Put}
-use Rattle.bk_base.specs.declared.requests.Reply.{Reply}
 use Rattle.bk_base.specs.declared.requests.Reply.TheVariants.{Value, Absent}
 use Rattle.bk_laws.specs.Session.{ShowsGet}
 use Rattle.bk_laws.specs.Wire.{request_text}
 use Rattle.bk_wire.proofs.RequestLaws.{some_text}
-use Rattle.bitcaskd.specs.Serving.{Site, Served, Refused}
 use Rattle.bitcaskd.specs.Store.{put_of, next_of}
 use Rattle.bitcaskd.proofs.StoreLaws.{image_of}
 use Rattle.bitcaskd.proofs.ServingLaws.{answer_of, get-served, put-served, refused, put-small}

@@ -1,4 +1,4 @@
-use Rattle.std.proofs.Common.{◌≡◌, ◌∙◌, ◌<◌, [], length, Bool, Option, List, ℕ}
+use Rattle.std.proofs.Common.{◌≡◌, ◌<◌, [], length, ℕ}
 use Rattle.bitcaskd.specs.Talking.{Inlet}
 use Rattle.bitcaskd.proofs.TalkingLaws.{reads_more, reads_no_more, left_none, left_some}
 use Rattle.bitcaskd.proofs.talking.read_on.Goals as goal

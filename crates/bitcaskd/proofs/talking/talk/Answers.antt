@@ -1,4 +1,4 @@
-use Rattle.std.proofs.Common.{◌≡◌, ap, sym, refl, arith, inl, List, ℕ, []}
+use Rattle.std.proofs.Common.{ap, sym, refl, arith, inl, []}
 use Rattle.std.proofs.lemmas.List.{append-nil}
 use Rattle.bk_wire.specs.Stream.{Stream, taken}
 use Rattle.bitcaskd.proofs.TalkingLaws.{nothing_yet, memory_ends}

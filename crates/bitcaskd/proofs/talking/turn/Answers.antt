@@ -1,4 +1,3 @@
-use Rattle.std.proofs.Common.{◌≡◌, ap, sym, subst, arith}
 use Rattle.bitcaskd.proofs.TalkingLaws.{bad_turn, fewer_asked, memory_ends}
 use Rattle.bitcaskd.proofs.talking.turn.Goals as goal
 
