@@ -1,21 +1,20 @@
 -- What a stop leaves is what the files may leave.
-use Rattle.std.proofs.Common.{◌≡◌, ℕ, zero, suc, ◌+◌, ◌-◌, ◌<◌, ◌≤◌, min, Bool, true, false, IsTrue, cond, List, [], ◌∷◌, ◌++◌, length, take, drop, map, get_or, refl, sym, ◌∙◌, ap, arith, subst, inl, inr}
+use Rattle.std.proofs.Common.{◌≡◌, ℕ, zero, suc, ◌+◌, ◌-◌, ◌<◌, ◌≤◌, false, IsTrue, List, [], ◌∷◌, ◌++◌, length, take, drop, map, get_or, refl, sym, ◌∙◌, ap, arith, subst, inl, inr}
 use Rattle.std.specs.declared.option.Option.{Option}
 use Rattle.std.specs.declared.option.Option.TheVariants.{None, Some}
 use Rattle.std.specs.Option.{is_some}
-use Rattle.std.proofs.lemmas.List.{length-append, length-take, length-drop, length-take-le, take_at, take_all, take_more, drop_more, get_or_append_left, get_or_past, get_or_push, get_or-take, take-append-drop, append_assoc, append-nil}
+use Rattle.std.proofs.lemmas.List.{length-append, length-take, length-drop, length-take-le, take_at, take_more, drop_more, get_or_append_left, get_or_past, get_or_push, get_or-take, take-append-drop, append_assoc}
 use Rattle.std.proofs.lemmas.Bool.{cases_lt}
 use Rattle.bk_base.specs.declared.names.Name.{Name}
 use Rattle.bk_disk.specs.Names.{same}
 use Rattle.bk_disk.specs.Told.{Table, Image, Front, Told, at, names, IsOnce, IsNotIn}
-use Rattle.bk_disk.specs.Stops.{AreOctets, Keeps, FileMayLeave, MayLeave, front_of, IsSynced}
-use Rattle.bk_disk.specs.Calls.{Becomes}
+use Rattle.bk_disk.specs.Stops.{AreOctets, Keeps, MayLeave, front_of, IsSynced}
 use Rattle.bk_disk.proofs.Names.{same_sym}
 use Rattle.bk_disk.proofs.Tables.{has, is_some-at}
 use Rattle.bk_disk.specs.Well.{is_well}
 use Rattle.bk_disk.proofs.Unique.{from_test, to_test}
 use Rattle.bk_memdisk.specs.declared.files.MemFile.{MemFile}
-use Rattle.bk_memdisk.specs.Contents.{placed, Placed}
+use Rattle.bk_memdisk.specs.Contents.{Placed}
 use Rattle.bk_memdisk.specs.Journal.{Kept, fronts_of}
 use Rattle.bk_memdisk.specs.Fits.{Fits, Tied, image_of}
 use Rattle.bk_memdisk.specs.Crash.{kept_part, flipped, all_flipped, left_of, crashed}
@@ -46,18 +45,18 @@ length-kept_part (Some n) part = simp length-take (omega arith)
 pub octets_push : (bytes : List ℕ) (b : ℕ) → AreOctets bytes → b < 256 → AreOctets (bytes ++ b ∷ [])
 octets_push bytes b h small i =
     elim (cases_lt i (length bytes)) [
-        inl lt ↦ rw get_or_append_left (h i)
+      | inl lt ↦ rw get_or_append_left (h i)
       | inr ge ↦
-        elim (cases_lt (length bytes) i) [
-            inl past ↦ let all : length (bytes ++ b ∷ []) ≤ i = simp length-append (omega arith) in rw get_or_past (omega arith)
-          | inr le ↦ let here : length bytes ≡ i = omega (arith, ge, le) in rw get_or_push small
-        ]
+          elim (cases_lt (length bytes) i) [
+            | inl past ↦ let all : length (bytes ++ b ∷ []) ≤ i = simp length-append (omega arith) in rw get_or_past (omega arith)
+            | inr le ↦ let here : length bytes ≡ i = omega (arith, ge, le) in rw get_or_push small
+          ]
     ]
 
 pub octets_take : (n : ℕ) (bytes : List ℕ) → AreOctets bytes → AreOctets (take n bytes)
 octets_take n bytes h i =
     elim (cases_lt i n) [
-        inl lt ↦ rw get_or-take (h i)
+      | inl lt ↦ rw get_or-take (h i)
       | inr ge ↦ let all : length (take n bytes) ≤ i = simp length-take (omega arith) in rw get_or_past (omega arith)
     ]
 
@@ -89,18 +88,18 @@ keeps_left keep flips f k h =
     let safe = safe_length f k h in
     let front : length (take f.safe f.bytes.items) ≡ f.safe = length-take-le f.safe f.bytes.items h.synced in
     let part : length (all_flipped flips 0 (kept_part keep (drop f.safe f.bytes.items))) ≤ length f.bytes.items - f.safe =
-        let flipped_len = length-all_flipped flips 0 (kept_part keep (drop f.safe f.bytes.items)) in
-        let kept_len = length-kept_part keep (drop f.safe f.bytes.items) in
-        let rest_len = length-drop f.safe f.bytes.items in
-        omega (arith, flipped_len, kept_len, rest_len)
+    let flipped_len = length-all_flipped flips 0 (kept_part keep (drop f.safe f.bytes.items)) in
+    let kept_len = length-kept_part keep (drop f.safe f.bytes.items) in
+    let rest_len = length-drop f.safe f.bytes.items in
+    omega (arith, flipped_len, kept_len, rest_len)
     in
     let all : length (left_of keep flips f.safe f.bytes.items) ≡ length (take f.safe f.bytes.items) + length (all_flipped flips 0 (kept_part keep (drop f.safe f.bytes.items))) =
-        length-append (take f.safe f.bytes.items) (all_flipped flips 0 (kept_part keep (drop f.safe f.bytes.items)))
+    length-append (take f.safe f.bytes.items) (all_flipped flips 0 (kept_part keep (drop f.safe f.bytes.items)))
     in
     record {
       safe = ap (λ n. take n (left_of keep flips f.safe f.bytes.items)) safe ∙ take_at (take f.safe f.bytes.items) (all_flipped flips 0 (kept_part keep (drop f.safe f.bytes.items))) f.safe front ∙ sym h.safe;
       no_shorter = omega (arith, safe, front, all);
-      no_longer = omega (arith, front, all, part, h.reach, h.synced)
+      no_longer = omega (arith, front, all, part, h.reach, h.synced);
     }
 
 pub may_leave : (keep : Option ℕ) (flips : List ℕ) (files : List MemFile) (t : Table Kept) → Tied files t → AllOctets (image_left keep flips files) → MayLeave (fronts_of t) (image_left keep flips files)
@@ -138,7 +137,7 @@ split_at files i x lt is =
 pub next_absent : (keep : Option ℕ) (flips : List ℕ) (files : List MemFile) (i : ℕ) (x : MemFile) → IsOnce (names (image_of files)) → i < length files → x ≡ get_or files i x → is_some (at (image_left keep flips (take i files)) x.name) ≡ false
 next_absent keep flips files i x once lt is =
     let parts : names (image_of files) ≡ names (image_of (take i files)) ++ x.name ∷ names (image_of (drop (i + 1) files)) =
-        ap (λ fs. names (image_of fs)) (split_at files i x lt is) ∙ names-append (take i files) (x ∷ drop (i + 1) files)
+    ap (λ fs. names (image_of fs)) (split_at files i x lt is) ∙ names-append (take i files) (x ∷ drop (i + 1) files)
     in
     is_some-at x.name (image_left keep flips (take i files))
     ∙ ap (λ ns. has ns x.name) (names-left keep flips (take i files))
@@ -168,20 +167,19 @@ whole_fronts-append n bytes (e ∷ es) = ap (λ t. (e.0, front_of e.1) ∷ t) (w
 pub placed_next : (n : Name) (bytes : List ℕ) (old new : Told) → is_some (at old.image n) ≡ false → IsSynced old → Placed n bytes old new → (new.image ≡ old.image ++ (n, bytes) ∷ []) × IsSynced new
 placed_next n bytes old new absent synced b =
     let image : new.image ≡ old.image ++ (n, bytes) ∷ [] = b.image ∙ rw absent refl in
-    let no_front : is_some (at old.fronts n) ≡ false = ap (λ t. is_some (at t n)) synced ∙ is_some-whole_fronts n old.image ∙ absent in
-    (
+    let no_front : is_some (at old.fronts n) ≡ false = ap (λ t. is_some (at t n)) synced ∙ is_some-whole_fronts n old.image ∙ absent in (
       image,
-      b.fronts ∙ rw no_front (ap (λ t. t ++ (n, front_of bytes) ∷ []) synced) ∙ sym (whole_fronts-append n bytes old.image) ∙ ap whole_fronts (sym image)
+      b.fronts ∙ rw no_front (ap (λ t. t ++ (n, front_of bytes) ∷ []) synced) ∙ sym (whole_fronts-append n bytes old.image) ∙ ap whole_fronts (sym image),
     )
 
 -- each file stands for what the journal says of it
 pub tied_synced : (files : List MemFile) (t : Table Kept) (i : ℕ) (x : MemFile) → Tied files t → i < length files → x ≡ get_or files i x → x.safe ≤ length x.bytes.items
 tied_synced files t i x tied lt is = subst (λ (f : MemFile). f.safe ≤ length f.bytes.items) (sym is) (go files t i tied lt) where
-    go : (fs : List MemFile) (t : Table Kept) (i : ℕ) → Tied fs t → i < length fs → (get_or fs i x).safe ≤ length (get_or fs i x).bytes.items
-    go [] t i h lt = absurd (omega arith)
-    go (f ∷ fs) [] i h lt = absurd h
-    go (f ∷ fs) (e ∷ es) zero h lt = h.1.synced
-    go (f ∷ fs) (e ∷ es) (suc i) h lt = go fs es i h.2 (omega arith)
+  go : (fs : List MemFile) (t : Table Kept) (i : ℕ) → Tied fs t → i < length fs → (get_or fs i x).safe ≤ length (get_or fs i x).bytes.items
+  go [] t i h lt = absurd (omega arith)
+  go (f ∷ fs) [] i h lt = absurd h
+  go (f ∷ fs) (e ∷ es) zero h lt = h.1.synced
+  go (f ∷ fs) (e ∷ es) (suc i) h lt = go fs es i h.2 (omega arith)
 
 -- Each name stands once in what a stop left
 
@@ -200,5 +198,5 @@ well_left old new test may synced =
     let w = from_test old test in
     to_test new (record {
       once = subst IsOnce (sym w.paired ∙ names-left_by old.fronts new.image may) w.once;
-      paired = ap names synced ∙ names-whole_fronts new.image
+      paired = ap names synced ∙ names-whole_fronts new.image;
     })

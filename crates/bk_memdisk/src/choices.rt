@@ -45,5 +45,9 @@ fn kept(part: &[u8], keep: Option<u64>) -> &[u8]
 fn flip(byte: u8, offset: u64, flips: &[u64]) -> u8
     ensures { result ≡ flipped flips.now offset byte }
 {
-    if flips.contains(&offset) { byte ^ 1 } else { byte }
+    if flips.contains(&offset) {
+        byte ^ 1
+    } else {
+        byte
+    }
 }

@@ -1,4 +1,8 @@
-use crate::{ListClock, MemDisk, MemSink, MemSource};
+//! What the disk, the streams and the clock do beyond their clauses.
+ghost use Rattle.std.specs.Prelude.{IsTrue};
+ghost use Rattle.bk_disk.specs.Told.{IsAbsent};
+
+use crate::{Choice, ListClock, MemDisk, MemSink, MemSource};
 use bk_base::{Kind, Moment, Name};
 use bk_disk::{Clock, Disk, DiskError, Failed, Sink, Source};
 use std::test::Fail;
@@ -77,5 +81,39 @@ fn calls_fail_as_chosen(rt: HostRuntime) -> Result<(), Fail> {
     assert_eq!(rt; begin(&mut disk), Ok(()));
     assert_eq!(rt; begin(&mut disk), Err(DiskError::Failed));
     assert_eq!(rt; begin(&mut disk), Err(DiskError::Failed));
+    Ok(())
+}
+
+// A new file of two appends, of which the second isn't synced.
+fn write<D: Disk>(disk: &mut D, name: Name, synced: &[u8], unsynced: &[u8]) -> Result<(), DiskError>
+    requires { IsTrue D.tells → IsAbsent name (D.told disk.old).image }
+{
+    disk.create(name)?;
+    disk.ready(name, synced.len() as u64)?;
+    disk.append(name, synced)?;
+    disk.sync(name)?;
+    disk.ready(name, unsynced.len() as u64)?;
+    disk.append(name, unsynced)?;
+    Ok(())
+}
+
+#[test]
+fn a_stop_leaves_what_is_chosen(rt: HostRuntime) -> Result<(), Fail> {
+    let cases = [
+        (None, [9].as_slice(), b"abcde".as_slice()),
+        (Some(1), [0, 0, 2].as_slice(), b"abb".as_slice()),
+        (Some(0), [0].as_slice(), b"ab".as_slice()),
+        (Some(7), [2].as_slice(), b"abcdd".as_slice()),
+    ];
+    for (keep, flips, left) in cases {
+        let mut disk = MemDisk::new(rt.alloc());
+        write(&mut disk, FIRST, b"ab", b"cde").map_err(|_| "refused")?;
+        let choice = Choice {
+            keep,
+            flips: flips.to_vec(rt.alloc())?,
+        };
+        let after = disk.crash(&choice).map_err(|_| "memory")?;
+        assert_eq!(rt; after.bytes(FIRST), Some(left));
+    }
     Ok(())
 }

@@ -14,11 +14,10 @@ loop-offset-init c =
 pub loop-offset-preserved : goal.loop-offset-preserved
 loop-offset-preserved c =
     let byte = rw c.deref.ensures.value at c.flip.ensures in
-    let small : c.flip.result < 256 = omega arith in
-    (
+    let small : c.flip.result < 256 = omega arith in (
       c.in_ok-push.ensures.items
-      ∙ ap (λ bs. bs ++ c.flip.result ∷ []) c.loop-offset.invariant.0
-      ∙ ap (λ b. take c.args.safe c.args.bytes.now ++ all_flipped c.args.choice.now.flips.items 0 (take c.loop-offset.offset c.kept-part.result.now) ++ b ∷ []) byte
-      ∙ sym (Left.left_more c.args.choice.now.flips.items (take c.args.safe c.args.bytes.now) c.kept-part.result.now c.loop-offset.offset 0 c.loop-offset-test.true),
-      subst AreOctets (sym c.in_ok-push.ensures.items) (Left.octets_push c.loop-offset.left.items c.flip.result c.loop-offset.invariant.1 small)
+          ∙ ap (λ bs. bs ++ c.flip.result ∷ []) c.loop-offset.invariant.0
+          ∙ ap (λ b. take c.args.safe c.args.bytes.now ++ all_flipped c.args.choice.now.flips.items 0 (take c.loop-offset.offset c.kept-part.result.now) ++ b ∷ []) byte
+          ∙ sym (Left.left_more c.args.choice.now.flips.items (take c.args.safe c.args.bytes.now) c.kept-part.result.now c.loop-offset.offset 0 c.loop-offset-test.true),
+      subst AreOctets (sym c.in_ok-push.ensures.items) (Left.octets_push c.loop-offset.left.items c.flip.result c.loop-offset.invariant.1 small),
     )

@@ -1,4 +1,4 @@
-use Rattle.std.proofs.Common.{◌≡◌, ◌≤◌, ◌∙◌, ◌++◌, ◌∷◌, [], ap, sym, subst, take, length, refl, arith}
+use Rattle.std.proofs.Common.{◌∙◌, ◌++◌, ◌∷◌, [], ap, sym, subst, take, refl}
 use Rattle.std.specs.Option.{is_some}
 use Rattle.std.proofs.lemmas.List.{take_all}
 use Rattle.bk_disk.specs.Told.{IsOnce, names, at}
@@ -27,14 +27,13 @@ loop-file-preserved c =
     let absent = ap (λ t. is_some (at t file.name)) so_far.0 ∙ Left.next_absent c.args.choice.now.keep c.args.choice.now.flips.items c.self.inside.files.items c.loop-file.file-index file once below is in
     let bytes = c.in_ok-bytes.bytes in
     let left = rw c.deref.ensures.value at c.in_ok-bytes.ensures.left in
-    let next = Left.placed_next file.name bytes.items c.loop-file.after.told c.place.new.self.told absent so_far.1 c.in_ok-place.ensures.ok in
-    (
+    let next = Left.placed_next file.name bytes.items c.loop-file.after.told c.place.new.self.told absent so_far.1 c.in_ok-place.ensures.ok in (
       next.0
-      ∙ ap (λ t. t ++ (file.name, bytes.items) ∷ []) so_far.0
-      ∙ ap (λ b. Left.image_left c.args.choice.now.keep c.args.choice.now.flips.items (take c.loop-file.file-index c.self.inside.files.items) ++ (file.name, b) ∷ []) left
-      ∙ sym (Left.left_next c.args.choice.now.keep c.args.choice.now.flips.items c.self.inside.files.items c.loop-file.file-index file below is),
+          ∙ ap (λ t. t ++ (file.name, bytes.items) ∷ []) so_far.0
+          ∙ ap (λ b. Left.image_left c.args.choice.now.keep c.args.choice.now.flips.items (take c.loop-file.file-index c.self.inside.files.items) ++ (file.name, b) ∷ []) left
+          ∙ sym (Left.left_next c.args.choice.now.keep c.args.choice.now.flips.items c.self.inside.files.items c.loop-file.file-index file below is),
       next.1,
-      subst Left.AllOctets (sym next.0) (Left.all_octets_append c.loop-file.after.told.image file.name bytes.items so_far.2 c.in_ok-bytes.ensures.octets)
+      subst Left.AllOctets (sym next.0) (Left.all_octets_append c.loop-file.after.told.image file.name bytes.items so_far.2 c.in_ok-bytes.ensures.octets),
     )
 
 pub returns-clause-image : goal.returns-clause-image
