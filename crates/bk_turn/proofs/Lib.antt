@@ -1,0 +1,5 @@
+pub mod Beginnings
+pub mod Totals
+pub mod Moves
+pub mod Draws
+pub mod Looks

@@ -1,0 +1,18 @@
+//! The turn: a lock whose value stands for one growing history. Each holding adds one step to the
+//! history, and a pass carries what its owner has seen of it and which steps are its own.
+#![tactic(auto)]
+
+mod holdings;
+mod passes;
+mod plays;
+mod seats;
+mod stands;
+mod steps;
+mod turns;
+mod views;
+
+pub use holdings::Holding;
+pub use passes::{NoSplit, Pass, Spent, Two};
+pub use stands::Stands;
+pub use turns::{NoTurn, Opened, Turn};
+pub use views::View;
