@@ -3,3 +3,8 @@ pub mod Totals
 pub mod Moves
 pub mod Draws
 pub mod Looks
+pub mod Serves
+pub mod Opens
+pub mod Splits
+pub mod Glues
+pub mod Closes

@@ -22,7 +22,7 @@ use Rattle.bk_turn.proofs.Totals.{total-set, total-one, total-two, total-zero, a
 use Rattle.bk_turn.proofs.Moves.{Goes, nothing_changes, tickets_kept, seen_moved, numbers_moved, weights_moved}
 
 -- a seat that isn't new and doesn't hold the turn isn't busy
-not_busy : (st : Stage) → (is_new st ≡ true → ⊥) → ((u : ℕ) → st ≡ Holding u → ⊥) → is_busy st ≡ 0
+pub not_busy : (st : Stage) → (is_new st ≡ true → ⊥) → ((u : ℕ) → st ≡ Holding u → ⊥) → is_busy st ≡ 0
 not_busy Fresh new holds = absurd (new refl)
 not_busy Filling new holds = absurd (new refl)
 not_busy Idle new holds = refl
@@ -45,7 +45,7 @@ own_goes_on first t longest seen None long placed numbered = own_none t longest 
 own_goes_on first t longest seen (Some n) long placed numbered = (numbered n refl).all
 
 -- a ticket is had at most once
-one_ticket : (first serving ticket t : ℕ) (l : List Seated) → TicketsInOrder first serving ticket l → tickets t l ≤ 1
+pub one_ticket : (first serving ticket t : ℕ) (l : List Seated) → TicketsInOrder first serving ticket l → tickets t l ≤ 1
 one_ticket first serving ticket t l r = dite (dec_le serving t)
     (λ le. dite (dec_le ticket t) (λ past. let b = r.ahead t past in omega arith) (λ lt. let b = r.out t le (omega arith) in omega arith))
     (λ lt. let b = r.served t (omega arith) in omega arith)

@@ -95,3 +95,17 @@ slot_busy Gone e = absurd cc
 -- in a list of one there is no second place
 pub one_place : {A : Type 0} (l : List A) (k j : ℕ) (v w : A) → length l ≡ 1 → get_elem? l k ≡ some v → get_elem? l j ≡ some w → k ≡ j
 one_place l k j v w one at at' = let a = at_below l k v at in let b = at_below l j w at' in omega arith
+
+-- a fact of the only seat
+pub each_only : (P : Seated → Type 0) (w : Seated) → P w → Each (w ∷ []) P
+each_only P w p zero seat at = subst P (some-injective w seat at) p
+each_only P w p (suc k) seat at = absurd (some-ne-none seat (sym at))
+
+-- a new seat was not joined away
+pub new_lives : (st : Stage) → is_new st ≡ true → is_live st ≡ true
+new_lives Fresh e = refl
+new_lives Filling e = refl
+new_lives Idle e = refl
+new_lives (Waiting t) e = refl
+new_lives (Holding t) e = refl
+new_lives Gone e = absurd cc
