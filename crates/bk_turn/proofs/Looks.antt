@@ -16,7 +16,7 @@ use Rattle.bk_turn.specs.declared.seats.Stage.TheVariants.{Fresh, Filling, Idle,
 use Rattle.bk_turn.specs.History.{own, own_of, number_at, IsApart}
 use Rattle.bk_turn.specs.Seats.{is_live, is_new, has_slot, has_ticket, is_busy, busy, tickets, seated, IsNoted, plain_note}
 use Rattle.bk_turn.specs.Rule.{TicketsInOrder, SlotHasItsPlace, ValueStandsForTheLongest, IsNumber, Orderly}
-use Rattle.bk_turn.specs.Steps.{Sat, TakesTurn, looked}
+use Rattle.bk_turn.specs.Steps.{Sat, TakesTurn, TookTurn, looked}
 use Rattle.bk_turn.proofs.Beginnings.{prefix_self, prefix_get, get_below, own_none}
 use Rattle.bk_turn.proofs.Totals.{total-set, total-one, total-two, total-zero, at_once, set_at, one_if_same, each_set, new_busy, slot_busy, one_place}
 use Rattle.bk_turn.proofs.Moves.{Goes, nothing_changes, tickets_kept, seen_moved, numbers_moved, weights_moved}
@@ -66,6 +66,11 @@ value_taken stands first t opening longest homes homes' l id v w r at free holds
   home = λ none_busy. let s = total-set (λ (x : Seated). is_busy x.stage) l id v w at in let o = total-one (λ (x : Seated). is_busy x.stage) l id v at in let b : is_busy w.stage ≡ 1 = ap is_busy holds in absurd (omega arith);
   holders = each_set (λ seat. has_slot seat.stage ≡ true → seat.view.seen ≡ longest) l id w (λ k seat ne at' e. let o = total-one (λ (x : Seated). is_busy x.stage) l k seat at' in let b = slot_busy seat.stage e in absurd (omega arith)) (λ e. seen);
 }
+
+-- what is in the slot that was taken last
+abbrev last_out : {S : Type 0} → List (ℕ × Option S) → Option S
+last_out [] = None
+last_out (slot ∷ slots) = slot.1
 
 module _ {S : Type 0} (stands : S → ℕ → Opening → List Step → Type 0) (first : ℕ) where
   -- while the seat whose ticket is served waits, nobody is at the slot
@@ -121,3 +126,15 @@ module _ {S : Type 0} (stands : S → ℕ → Opening → List Step → Type 0) 
       (λ hit. let free = nobody_busy s r id me.0 t at waits (sym is ∙ hit) in let g = look_hit s r id me t at waits (sym is ∙ hit) free in
           (g.0, g.1, g.2, g.3, λ u e. ((λ _. subst (λ (z : ℕ). TakesTurn stands z me (g.0, Rattle.atomic_table.specs.Table.carried_after me.1 g.1)) (mine u e) g.4), λ miss. absurd (miss (hit ∙ mine u e)))))
       (λ miss. nothing_changes stands first s r 0 n id me (looked stands (step slots 0 0 0 none) me n) at (ap (λ (ws : List ℕ). set ws 0 (get_or ws 0 0)) r.words ∙ sym r.words) (λ u e. ((λ hit. absurd (miss (hit ∙ sym (mine u e)))), λ _. refl)))
+
+  -- a seat that took the slot knows as much once the value was moved out of it
+  pub took : (t : ℕ) (m found emptied : Sat S) (x : S) → TakesTurn stands t m found → found.1 ≡ (0, Some x) ∷ [] → emptied ≡ (found.0, (0, None) ∷ []) → TookTurn stands t m.0.view x emptied
+  took t m found emptied x takes_it has_x left = let old : View = m.0.view in let now : emptied.0 ≡ seated (Holding t) (record old { seen = takes_it.longest }) = ap (λ (z : Sat S). z.0) left ∙ ap (λ (z : Sat S). z.0) takes_it.seat in
+      let seen : emptied.0.view.seen ≡ takes_it.longest = ap (λ (z : Seated). z.view.seen) now in let slots : (0, Some takes_it.value) ∷ m.1 ≡ (0, Some x) ∷ [] = sym (ap (λ (z : Sat S). z.1) takes_it.seat) ∙ has_x in
+      let inner : Some takes_it.value ≡ Some x = ap last_out slots in let same : takes_it.value ≡ x = cc (inner) in record {
+        seat = λ k. ((now ∙ ap (λ (xs : List Step). seated (Holding t) (record old { seen = xs })) (sym seen)) k, ap (λ (z : Sat S). z.1) left k);
+        seen = subst (IsPrefix old.seen) (sym seen) takes_it.seen;
+        value_stands = subst (λ (z : S × List Step). stands z.0 old.first old.opening z.1) (λ k. (same k, sym seen k)) takes_it.value_stands;
+        placed = takes_it.placed ∙ ap (λ (xs : List Step). old.first + length xs) (sym seen);
+        own_kept = ap (own (number_at old.number t)) seen ∙ takes_it.own_kept;
+      }

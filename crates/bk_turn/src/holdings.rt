@@ -1,5 +1,5 @@
 //! A holding of the turn.
-ghost use Rattle.std.specs.Prelude.{◌≡◌, ◌+◌, ℕ, length, IsTrue};
+ghost use Rattle.std.specs.Prelude.{◌≡◌, ◌+◌, ◌<◌, ℕ, length, IsTrue};
 ghost use Rattle.bk_turn.specs.Badges.{holds_turn, has_empty_slot};
 ghost use Rattle.bk_turn.specs.History.{number_at};
 
@@ -14,6 +14,7 @@ pub struct Holding<S> {
     pub(crate) number: u64,
     ghost holds: { IsTrue (holds_turn place seat.me.0.stage) },
     ghost empty: { IsTrue (has_empty_slot seat.me.1) },
+    ghost below_last: { place < 18446744073709551615 },
     ghost place_is: { place ≡ seat.me.0.view.first + length seat.me.0.view.seen },
     ghost number_is: { number ≡ number_at seat.me.0.view.number place },
 }

@@ -2,10 +2,13 @@
 //! history, and a pass carries what its owner has seen of it and which steps are its own.
 #![tactic(auto)]
 
+mod entering;
 mod holdings;
+mod making;
 mod passes;
 mod plays;
 mod seats;
+mod sharing;
 mod stands;
 mod steps;
 mod turns;

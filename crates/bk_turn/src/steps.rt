@@ -47,6 +47,18 @@ pub(crate) fn fill<S: Stands, O: Opens>(words: &Words<S>, seat: &mut Seat<S>, va
     words.load::<Fill>(seat, SERVING);
 }
 
+/// Both steps of the first seat.
+pub(crate) fn open<S: Stands, O: Opens>(words: &Words<S>, seat: &mut Seat<S>, value: S)
+    requires table { IsSized words.now.table_id × (seat.old.table_id ≡ words.now.table_id) }
+    requires ready { seat.old.me ≡ (fresh words.now.key, []) }
+    requires stands { S.stands value words.now.key O.opening [] }
+    ensures table { seat.new.table_id ≡ seat.old.table_id }
+    ensures opened { seat.new.me ≡ (seated Idle (opening_view words.now.key O.opening), []) }
+{
+    begin::<S, O>(words, seat);
+    fill::<S, O>(words, seat, value);
+}
+
 /// Puts a value into the slot, which the seat has and which is empty.
 fn put<S: Stands>(words: &Words<S>, seat: &mut Seat<S>, value: S)
     requires table { seat.old.table_id ≡ words.now.table_id }
@@ -85,7 +97,7 @@ pub(crate) fn draw<S: Stands, R: Wait>(
     requires ready { (seat.old.me.0.stage ≡ Idle) × (seat.old.me.1 ≡ []) }
     requires from { from ≢ 18446744073709551615 }
     ensures table { seat.new.table_id ≡ seat.old.table_id }
-    ensures drawn { MatchOption result (seat.new.me ≡ (found_full seat.old.me.0, [])) (λ t. (seat.new.me ≡ (with_stage (Waiting t) seat.old.me.0, [])) × (seat.old.me.0.view.full ≡ false)) }
+    ensures drawn { MatchOption result (seat.new.me ≡ (found_full seat.old.me.0, [])) (λ t. (seat.new.me ≡ (with_stage (Waiting t) seat.old.me.0, [])) × (seat.old.me.0.view.full ≡ false) × (t < 18446744073709551615)) }
 {
     let mut ticket = from;
     for _ in rt.forever() {
