@@ -48,3 +48,12 @@ module _ {S : Type 0} (stands : S → ℕ → Opening → List Step → Type 0) 
         final.4 0 (Some home.0) (ap (λ (hs : List (maybe.Option (Option S))). get_elem? hs 0) home.1),
         subst (λ (z : ℕ × Opening × List Step). stands home.0 z.0 z.1 z.2) (λ k. (sym turn.0 k, sym turn.1 k, sym all_seen k)) home.2,
       )
+
+  -- the slot is found with a value, and that value stands for what the seat has seen
+  pub closes_some : (id : ℕ) (v : Seated) (words : List ℕ) (slots : List (Option S)) (found : Option S) → v.stage ≡ Idle → v.view.weight ≡ 4294967296 → Final (Seen (Orderly stands first) id v) words slots → get_elem? slots 0 ≡ some found → found ≡ None → ⊥
+  closes_some id v words slots found idle all final at none_there = let c = closes id v words slots idle all final in let e : Some c.0 ≡ None = sym (some-injective found (Some c.0) (sym at ∙ c.1)) ∙ none_there in cc (e)
+
+  pub closes_with : (id : ℕ) (v : Seated) (words : List ℕ) (slots : List (Option S)) (found : Option S) (value : S) → v.stage ≡ Idle → v.view.weight ≡ 4294967296 → Final (Seen (Orderly stands first) id v) words slots → get_elem? slots 0 ≡ some found → found ≡ Some value
+      → stands value v.view.first v.view.opening v.view.seen
+  closes_with id v words slots found value idle all final at is = let c = closes id v words slots idle all final in let e : Some c.0 ≡ Some value = sym (some-injective found (Some c.0) (sym at ∙ c.1)) ∙ is in let same : c.0 ≡ value = cc (e) in
+      subst (λ (y : S). stands y v.view.first v.view.opening v.view.seen) same c.2
