@@ -71,7 +71,7 @@ module _ {S : Type 0} (stands : S → ℕ → Opening → List Step → Type 0) 
         longest = r.longest;
         words = ap (λ (ws : List ℕ). set ws 1 n) r.words ∙ ap (λ (t : ℕ). r.serving ∷ t ∷ []) (sym here);
         tickets_in_order = tickets_kept first r.serving r.ticket s.views id v w r.tickets_in_order at (λ u. refl) (λ _. here ∙ last);
-        seen_from_the_front = seen_moved first r.serving r.serving r.opening r.longest r.longest s.views id v w two two.long (prefix_self r.longest) (two.one_turn id v at live) (two.seen id v at live) (let n = two.noted id v at live in record { one_turn = n.one_turn; left_seen = n.left_seen; right_seen = n.right_seen; own_kept = n.own_kept; apart = n.apart })
+        seen_from_the_front = seen_moved first r.serving r.serving r.opening r.longest r.longest s.views id v w two two.long (prefix_self r.longest) (two.one_turn id v at live) (two.seen id v at live) (let n = two.noted id v at live in record { one_turn = n.one_turn; left_seen = n.left_seen; right_seen = n.right_seen; left_own = n.left_own; right_own = n.right_own; apart = n.apart })
             (known_kept s.views id v w r.longest at live refl two.known);
         slot_has_its_place = slot_stays first r.serving r.ticket r.ticket s.homes s.views id v w r.slot_has_its_place at resting;
         value_stands_for_the_longest = value_stays stands first r.opening r.longest s.homes s.views id v w r.value_stands_for_the_longest at resting resting;

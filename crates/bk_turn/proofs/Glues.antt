@@ -98,7 +98,8 @@ module _ (l : List Seated) (id other : ℕ) (v w : Seated) (at : get_elem? l id 
           one_turn = (turn'.0 ∙ sym turn.0, turn'.1 ∙ sym turn.1);
           left_seen = long.1;
           right_seen = long.2;
-          own_kept = own_of_longer first longest v.view.seen (longer v.view.seen w.view.seen) v.view.number long.1 long.0 (five.numbered id v at);
+          left_own = own_of_longer first longest v.view.seen (longer v.view.seen w.view.seen) v.view.number long.1 long.0 (five.numbered id v at);
+          right_own = own_of_longer first longest w.view.seen (longer v.view.seen w.view.seen) w.view.number long.2 long.0 (five.numbered other w at');
           apart = numbers_apart l id other v w five.apart (λ e. ne (sym e)) at at' v.view.number w.view.number refl refl;
         };
         known = known_joined longest long.0 long.1 long.2 r.known;

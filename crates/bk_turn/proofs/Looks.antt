@@ -36,7 +36,7 @@ apart_none (Some n) = tt
 
 -- a seat that has joined nobody since it last saw the history has a true note
 pub plainly_noted : (view : View) → IsNoted view (plain_note view)
-plainly_noted view = record { one_turn = (refl, refl); left_seen = prefix_self view.seen; right_seen = prefix_self view.seen; own_kept = refl; apart = apart_none view.number }
+plainly_noted view = record { one_turn = (refl, refl); left_seen = prefix_self view.seen; right_seen = prefix_self view.seen; left_own = refl; right_own = refl; apart = apart_none view.number }
 
 -- no later step of the history is the seat's own
 pub own_goes_on : (first t : ℕ) (longest seen : List Step) (number : Option ℕ) → first + length longest ≡ t → ((k : ℕ) (step : Step) → slice_get longest k ≡ Some step → step.entry.caller ≤ first + k)

@@ -59,7 +59,7 @@ module _ (l : List Seated) (id : ℕ) (v : Seated) (at : get_elem? l id ≡ some
         long = r.long;
         one_turn = every_live (λ x. (x.view.first ≡ first) × (x.view.opening ≡ o)) r.one_turn turn turn;
         seen = every_live (λ x. IsPrefix x.view.seen longest) r.seen seen seen;
-        noted = every_live (λ x. IsNoted x.view x.note) r.noted record { one_turn = n.one_turn; left_seen = n.left_seen; right_seen = n.right_seen; own_kept = n.own_kept; apart = n.apart } (plainly_noted b.view);
+        noted = every_live (λ x. IsNoted x.view x.note) r.noted record { one_turn = n.one_turn; left_seen = n.left_seen; right_seen = n.right_seen; left_own = n.left_own; right_own = n.right_own; apart = n.apart } (plainly_noted b.view);
         known = (known.0, known.1, at_longer (set l id a) (b ∷ []) known.0 known.1 known.2, known.3, known.4);
       }
 

@@ -53,14 +53,15 @@ pub record Ends (old : View) (number : ℕ) (step : Step) (now : View) : Type 0 
   pub numbered : now.number ≡ Some number
   pub own_added : own number now.seen ≡ own number old.seen ++ step ∷ []
 
--- Two passes were made one. What each had seen begins what the other had seen or goes on from it, and the longer is kept.
+-- Two passes were made one. What one of them had seen begins what the other had seen, and the longer is kept; no step that one had not seen was its own.
 pub record Joins (left right now : View) : Type 0 where
   pub same : (now.first ≡ left.first) × (now.opening ≡ left.opening) × (now.number ≡ left.number)
   pub one_turn : (right.first ≡ left.first) × (right.opening ≡ left.opening)
   pub longer_kept : now.seen ≡ longer left.seen right.seen
   pub left_seen : IsPrefix left.seen now.seen
   pub right_seen : IsPrefix right.seen now.seen
-  pub own_kept : own_of left.number now.seen ≡ own_of left.number left.seen
+  pub left_own : own_of left.number now.seen ≡ own_of left.number left.seen
+  pub right_own : own_of right.number now.seen ≡ own_of right.number right.seen
   pub apart : IsApart left.number right.number
   pub weighs : now.weight ≡ left.weight + right.weight
   pub found_full : now.full ≡ (left.full || right.full)

@@ -64,7 +64,8 @@ pub record IsNoted (view : View) (note : Note) : Type 0 where
   pub one_turn : (note.first ≡ view.first) × (note.opening ≡ view.opening)
   pub left_seen : IsPrefix note.left view.seen
   pub right_seen : IsPrefix note.right view.seen
-  pub own_kept : own_of view.number view.seen ≡ own_of view.number note.left
+  pub left_own : own_of view.number view.seen ≡ own_of view.number note.left
+  pub right_own : own_of note.number view.seen ≡ own_of note.number note.right
   pub apart : IsApart view.number note.number
 
 -- how far a seat is

@@ -6,6 +6,7 @@ mod entering;
 mod holdings;
 mod making;
 mod passes;
+mod places;
 mod plays;
 mod seats;
 mod sharing;
@@ -16,6 +17,7 @@ mod views;
 
 pub use holdings::Holding;
 pub use passes::{NoSplit, Pass, Spent, Two};
+pub use places::{put_pass, take_pass};
 pub use stands::Stands;
 pub use turns::{NoTurn, Opened, Turn};
 pub use views::View;

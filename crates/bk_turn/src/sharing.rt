@@ -40,6 +40,15 @@ pub(crate) fn pass_of_seat<S>(seat: Seat<S>, seen_to: u64, number: Option<u64>) 
     }
 }
 
+impl Pass {
+    /// The place up to which the pass has seen the history.
+    pub fn seen_to(&self) -> u64
+        ensures { let view = pass_view self.now in result ≡ view.first + length view.seen }
+    {
+        self.seen_to
+    }
+}
+
 impl<S: Stands> Turn<S> {
     /// Splits a pass of this turn, whose weight is at least 2. Both passes have seen what it saw; the
     /// left one keeps its number, and the right one has none and the weight 1. It takes no memory,
