@@ -4,3 +4,4 @@ pub mod Rule
 pub mod Steps
 pub mod Badges
 pub mod Handles
+pub mod Places
