@@ -99,3 +99,7 @@ module _ {S : Type 0} (stands : S → ℕ → Opening → List Step → Type 0) 
             record { hit = λ hit. absurd (miss hit); full = λ _ _. refl; miss = λ _ not. absurd (not last) },
           ))
           (λ other. nothing_changes stands first s r 1 n id me told at (ap (λ (ws : List ℕ). set ws 1 (get_or ws 1 0)) r.words ∙ sym r.words) record { hit = λ hit. absurd (miss hit); full = λ _ last. absurd (other last); miss = λ _ _. refl }))
+
+  -- the same in a later try, where nothing has changed
+  pub draws_again : (slots id : ℕ) (me began : Sat S) (old : ℕ) → me ≡ began → began.0.stage ≡ Idle → old ≢ 18446744073709551615 → Allows (Orderly stands first) slots id me 1 (λ n. either (eqb n old) (old + 1) n) (drawn (step slots 1 old (old + 1) none) me)
+  draws_again slots id me began old same idle = draws slots id me old (ap (λ (m : Sat S). m.0.stage) same ∙ idle)

@@ -8,3 +8,5 @@ pub mod Opens
 pub mod Splits
 pub mod Glues
 pub mod Closes
+pub mod Turning
+pub mod Pushing

@@ -138,3 +138,21 @@ module _ {S : Type 0} (stands : S → ℕ → Opening → List Step → Type 0) 
         placed = takes_it.placed ∙ ap (λ (xs : List Step). old.first + length xs) (sym seen);
         own_kept = ap (own (number_at old.number t)) seen ∙ takes_it.own_kept;
       }
+
+  -- the same in a later look, where nothing has changed
+  pub looks_again : (slots id : ℕ) (me began : Sat S) (t : ℕ) → me ≡ began → began.0.stage ≡ Waiting t → Allows (Orderly stands first) slots id me 0 (λ n. n) (looked stands (step slots 0 0 0 none) me)
+  looks_again slots id me began t same waits = looks slots id me t (ap (λ (m : Sat S). m.0.stage) same ∙ waits)
+
+  -- a look that found the ticket, and one that did not
+  pub found_turn : (slots n t : ℕ) (me began after : Sat S) → me ≡ began → began.0.stage ≡ Waiting t → looked stands (step slots 0 0 0 none) me n after → n ≡ t → TakesTurn stands t me after
+  found_turn slots n t me began after same waits told hit = (told t (ap (λ (m : Sat S). m.0.stage) same ∙ waits)).0 hit
+
+  pub found_other : (slots n t : ℕ) (me began after : Sat S) → me ≡ began → began.0.stage ≡ Waiting t → looked stands (step slots 0 0 0 none) me n after → (n ≡ t → ⊥) → after ≡ began
+  found_other slots n t me began after same waits told miss = (told t (ap (λ (m : Sat S). m.0.stage) same ∙ waits)).1 miss ∙ same
+
+  -- the slot is with the seat that has the turn
+  pub slot_found : (t : ℕ) (me began after : Sat S) → me ≡ began → began.1 ≡ [] → TakesTurn stands t me after → (value : S) × (after.1 ≡ (0, Some value) ∷ [])
+  slot_found t me began after same empty takes_it = (takes_it.value, ap (λ (m : Sat S). m.1) takes_it.seat ∙ ap (λ (slots : List (ℕ × Option S)). (0, Some takes_it.value) ∷ slots) (ap (λ (m : Sat S). m.1) same ∙ empty))
+
+  pub took_again : (t : ℕ) (me began found emptied : Sat S) (x : S) → me ≡ began → TakesTurn stands t me found → found.1 ≡ (0, Some x) ∷ [] → emptied ≡ (found.0, (0, None) ∷ []) → TookTurn stands t began.0.view x emptied
+  took_again t me began found emptied x same takes_it has_x left = subst (λ (m : Sat S). TookTurn stands t m.0.view x emptied) same (took t me found emptied x takes_it has_x left)

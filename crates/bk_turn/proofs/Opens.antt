@@ -139,3 +139,8 @@ module _ {S : Type 0} (stands : S → ℕ → Opening → List Step → Type 0) 
         },
         λ k. (w, ap rest has_x k),
       )
+
+  -- the same after the value was put into the slot
+  pub fills_put : (slots id : ℕ) (before after : Sat S) (v : View) (x : S) → before ≡ (seated Filling v, (0, None) ∷ []) → after ≡ (before.0, (0, Some x) ∷ []) → stands x v.first v.opening [] → Allows (Orderly stands first) slots id after 0 (λ n. n) (filled (step slots 0 0 0 none) after)
+  fills_put slots id before after v x was put value = let same : after.0 ≡ seated Filling v = ap (λ (m : Sat S). m.0) put ∙ ap (λ (m : Sat S). m.0) was in
+      fills slots id after x (ap (λ (seat : Seated). seat.stage) same) (ap (λ (m : Sat S). m.1) put) (subst (λ (seat : Seated). stands x seat.view.first seat.view.opening []) (sym same) value)

@@ -144,3 +144,10 @@ module _ {S : Type 0} (stands : S → ℕ → Opening → List Step → Type 0) 
         λ u e. let same : t ≡ u = let both : Holding t ≡ Holding u = sym holds ∙ e in cc (both) in
             λ k. (seated Idle (record v.view { seen = v.view.seen ++ a ∷ []; number = Some (number_at v.view.number (same k)) }), ap rest has_x k),
       )
+
+  -- the same after the value was put into the slot
+  pub serves_put : (slots id : ℕ) (before after : Sat S) (t : ℕ) (x : S) (a : Step) → before.0.stage ≡ Holding t → after ≡ (before.0, (0, Some x) ∷ []) → stands x before.0.view.first before.0.view.opening (before.0.view.seen ++ a ∷ []) → a.entry.caller ≡ number_at before.0.view.number t
+      → Allows (Orderly stands first) slots id after 0 (λ n. (n + 1) % 2 ^ 64) (served a (step slots 0 1 0 none) after)
+  serves_put slots id before after t x a holds put value calls = let same : after.0 ≡ before.0 = ap (λ (m : Sat S). m.0) put in
+      serves slots id after t x a (ap (λ (seat : Seated). seat.stage) same ∙ holds) (ap (λ (m : Sat S). m.1) put) (subst (λ (seat : Seated). stands x seat.view.first seat.view.opening (seat.view.seen ++ a ∷ [])) (sym same) value)
+      (calls ∙ ap (λ (seat : Seated). number_at seat.view.number t) (sym same))

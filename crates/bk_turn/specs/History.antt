@@ -65,3 +65,13 @@ pub record Joins (left right now : View) : Type 0 where
   pub apart : IsApart left.number right.number
   pub weighs : now.weight ≡ left.weight + right.weight
   pub found_full : now.full ≡ (left.full || right.full)
+
+-- One whole turn of a pass: the step was added to the history as it was then, which goes on after what the pass had seen, and is the pass's own.
+pub record Advances (old : View) (step : Step) (now : View) : Type 0 where
+  pub before : List Step
+  pub same : (now.first ≡ old.first) × (now.opening ≡ old.opening) × (now.weight ≡ old.weight) × (now.full ≡ old.full)
+  pub goes_on : IsPrefix old.seen before
+  pub seen : now.seen ≡ before ++ step ∷ []
+  pub numbered : now.number ≡ Some (number_at old.number (old.first + length before))
+  pub called : step.entry.caller ≡ number_at old.number (old.first + length before)
+  pub own_added : own_of now.number now.seen ≡ own_of old.number old.seen ++ step ∷ []

@@ -5,3 +5,4 @@ pub mod Steps
 pub mod Badges
 pub mod Handles
 pub mod Places
+pub mod Pushes

@@ -13,11 +13,13 @@ mod sharing;
 mod stands;
 mod steps;
 mod turns;
+#[cfg(test)]
+mod tests;
 mod views;
 
 pub use holdings::Holding;
 pub use passes::{NoSplit, Pass, Spent, Two};
-pub use places::{put_pass, take_pass};
+pub use places::{drop_places, empty_places, put_pass, take_pass};
 pub use stands::Stands;
 pub use turns::{NoTurn, Opened, Turn};
 pub use views::View;

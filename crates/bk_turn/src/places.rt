@@ -1,5 +1,5 @@
 //! Passes in places: in an `Option`, since no closure can own a pass, and in a row of them.
-ghost use Rattle.std.specs.Prelude.{◌≡◌, ◌+◌, ◌-◌, ◌<◌, ℕ, length, None, All, IsSome};
+ghost use Rattle.std.specs.Prelude.{◌≡◌, ◌+◌, ◌-◌, ◌<◌, ℕ, length, None, All, IsSome, IfOk, vec_len};
 ghost use mathlib.Core.List.{IsPrefix};
 ghost use Rattle.bk_turn.specs.Handles.{turn_id, pass_turn, pass_view};
 ghost use Rattle.bk_turn.specs.History.{own_of};
@@ -8,6 +8,7 @@ ghost use Rattle.bk_turn.specs.Places.{place_view, HasPass, HasSplit, weights_of
 use crate::passes::{Pass, Two};
 use crate::stands::Stands;
 use crate::turns::Turn;
+use std::alloc::{AllocError, Global};
 
 /// Takes the pass out of its place.
 pub fn take_pass(place: &mut Option<Pass>) -> Pass
@@ -27,6 +28,31 @@ pub fn put_pass(place: &mut Option<Pass>, pass: Pass)
         None => {}
         Some(_) => unreachable!(),
     }
+}
+
+/// So many empty places.
+pub fn empty_places(alloc: Global, count: usize) -> Result<Vec<Option<Pass>>, AllocError>
+    ensures count { IfOk result (λ places. vec_len places ≡ count) }
+    ensures empty { IfOk result (λ places. All (λ place. place ≡ None) places.items) }
+{
+    let mut places = Vec::with_capacity(alloc, count)?;
+    for _ in 0..count {
+        places.push_reserved(None);
+    }
+    Ok(places)
+}
+
+/// Lets empty places go.
+pub fn drop_places(mut places: Vec<Option<Pass>>)
+    requires { All (λ place. place ≡ None) places.items }
+{
+    while let Some(place) = places.pop() {
+        match place {
+            None => {}
+            Some(_) => unreachable!(),
+        }
+    }
+    places.destroy_empty();
 }
 
 impl<S: Stands> Turn<S> {
