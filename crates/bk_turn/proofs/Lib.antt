@@ -10,3 +10,4 @@ pub mod Glues
 pub mod Closes
 pub mod Turning
 pub mod Pushing
+pub mod Rows

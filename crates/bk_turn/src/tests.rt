@@ -1,12 +1,13 @@
 //! The turn with a list of numbers under it, which stands for the history of its pushes.
-ghost use Rattle.std.specs.Prelude.{◌≡◌, ℕ, ◌+◌, ◌++◌, ◌∷◌, [], true, length, ◌<◌, All};
+ghost use Rattle.std.specs.Prelude.{◌≡◌, ℕ, ◌+◌, ◌++◌, ◌∷◌, [], true, length, ◌<◌, All, Option, slice_index_or};
 ghost use Rattle.bk_base.specs.declared.histories.Opening.{Opening};
 ghost use Rattle.bk_base.specs.declared.histories.Step.{Step};
+ghost use Rattle.bk_turn.specs.declared.passes.Pass.{Pass};
 ghost use Rattle.bk_turn.specs.Handles.{turn_id, pass_turn, pass_view, hold_turn, hold_view, hold_number};
 ghost use Rattle.std.specs.Bool.{OnTrue, OnFalse};
 ghost use mathlib.Core.List.{IsPrefix};
 ghost use Rattle.bk_turn.specs.History.{Ends};
-ghost use Rattle.bk_turn.specs.Places.{place_view, HasPass, weights_of};
+ghost use Rattle.bk_turn.specs.Places.{place_view, HasPass};
 ghost use Rattle.bk_turn.specs.Pushes.{ArePushes, Pushes, push_step};
 
 use crate::{Holding, NoTurn, Opened, Pass, Spent, Stands, Turn, Two, drop_places, empty_places, put_pass, take_pass};
@@ -151,11 +152,11 @@ fn push_by_two<R: Threads + Wait + Abort + Sync>(
         rt,
         &mut ||
             requires { HasPass (turn_id turn.now) left.now }
-            ensures { HasPass (turn_id turn.now) left.exit.now × ((place_view left.exit.now).weight ≡ (place_view left.entry.now).weight) }
+            ensures { HasPass (turn_id turn.entry.now) left.exit.now × ((place_view left.exit.now).weight ≡ (place_view left.entry.now).weight) }
         { push_all(rt, turn, left, 0, 1_000) },
         &mut ||
             requires { HasPass (turn_id turn.now) right.now }
-            ensures { HasPass (turn_id turn.now) right.exit.now × ((place_view right.exit.now).weight ≡ (place_view right.entry.now).weight) }
+            ensures { HasPass (turn_id turn.entry.now) right.exit.now × ((place_view right.exit.now).weight ≡ (place_view right.entry.now).weight) }
         { push_all(rt, turn, right, 1_000, 2_000) },
     );
 }
@@ -164,9 +165,7 @@ fn push_by_two<R: Threads + Wait + Abort + Sync>(
 fn eight_threads_push_and_all_passes_come_back(rt: HostRuntime) -> Result<(), Fail> {
     let Opened { turn, pass } = opened(&rt, rt.alloc(), 1);
     let mut places = empty_places(rt.alloc(), 8).expect(&rt, "memory");
-    let pass = turn.split_into(pass, places.as_mut_slice());
-    push_by_each(&rt, &turn, places.as_mut_slice());
-    let pass = turn.join_from(pass, places.as_mut_slice());
+    let pass = push_by_eight(&rt, &turn, pass, places.as_mut_slice());
     drop_places(places);
     assert_eq!(rt; pass.seen_to(), 801);
     let mut tally = turn.close(pass);
@@ -176,6 +175,23 @@ fn eight_threads_push_and_all_passes_come_back(rt: HostRuntime) -> Result<(), Fa
     Ok(())
 }
 
+fn push_by_eight<R: Threads + Wait + Abort + Sync>(
+    rt: &R,
+    turn: &Turn<Tally>,
+    pass: Pass,
+    places: &mut [Option<Pass>],
+) -> Pass
+    requires turn { pass_turn pass ≡ turn_id turn.now }
+    requires places { All (λ place. place ≡ None) places.old × (length places.old ≡ 8) × (8 < (pass_view pass).weight) }
+    ensures turn { pass_turn result ≡ turn_id turn.now }
+    ensures weight { (pass_view result).weight ≡ (pass_view pass).weight }
+    ensures emptied { All (λ place. place ≡ None) places.new }
+{
+    let pass = turn.split_into(pass, places);
+    push_by_each(rt, turn, places);
+    turn.join_from(pass, places)
+}
+
 fn push_by_each<R: Threads + Wait + Abort + Sync>(
     rt: &R,
     turn: &Turn<Tally>,
@@ -183,11 +199,11 @@ fn push_by_each<R: Threads + Wait + Abort + Sync>(
 )
     requires { All (HasPass (turn_id turn.now)) places.old × (length places.old ≡ 8) }
     ensures turn { All (HasPass (turn_id turn.now)) places.new }
-    ensures weight { weights_of places.new ≡ weights_of places.old }
+    ensures weight { (i : ℕ) (d : Option Pass) → i < length places.old → (place_view (slice_index_or places.new i d)).weight ≡ (place_view (slice_index_or places.old i d)).weight }
 {
     for_each_mut(rt, places, 8, &|i: usize, place: &mut Option<Pass>|
         requires { HasPass (turn_id turn.now) place.old × (i < 8) }
-        ensures { HasPass (turn_id turn.now) place.new × ((place_view place.new).weight ≡ (place_view place.old).weight) }
+        ensures { HasPass (turn_id turn.entry.now) place.new × ((place_view place.new).weight ≡ (place_view place.old).weight) }
     {
         let from = 100 * i as u64;
         push_all(rt, turn, place, from, from + 100)
