@@ -1,5 +1,5 @@
 //! The turn with a list of numbers under it, which stands for the history of its pushes.
-ghost use Rattle.std.specs.Prelude.{◌≡◌, ℕ, ◌+◌, ◌++◌, ◌∷◌, [], true, length, ◌<◌, All, Option, slice_index_or};
+ghost use Rattle.std.specs.Prelude.{◌≡◌, ℕ, ◌+◌, ◌++◌, ◌∷◌, [], true, length, ◌<◌, ◌≤◌, All, Option, slice_index_or};
 ghost use Rattle.bk_base.specs.declared.histories.Opening.{Opening};
 ghost use Rattle.bk_base.specs.declared.histories.Step.{Step};
 ghost use Rattle.bk_turn.specs.declared.passes.Pass.{Pass};
@@ -208,4 +208,54 @@ fn push_by_each<R: Threads + Wait + Abort + Sync>(
         let from = 100 * i as u64;
         push_all(rt, turn, place, from, from + 100)
     });
+}
+
+#[test]
+fn a_pass_is_split_and_joined_while_others_hold(rt: HostRuntime) -> Result<(), Fail> {
+    let Opened { turn, pass } = opened(&rt, rt.alloc(), 5);
+    let Two { left, right } = turn.split(pass).unwrap();
+    let mut left = Some(left);
+    let mut right = Some(right);
+    split_beside_pushes(&rt, &turn, &mut left, &mut right);
+    let joined = turn.join(left.unwrap(), right.unwrap());
+    assert_eq!(rt; joined.seen_to(), 505);
+    let tally = turn.close(joined);
+    let wanted: Vec<u64> = (0..500u64).collect(rt.alloc())?;
+    assert_eq!(rt; tally.numbers, wanted);
+    Ok(())
+}
+
+/// Splits a pass and joins its parts again, so many times.
+fn split_and_join(turn: &Turn<Tally>, place: &mut Option<Pass>, times: u64)
+    requires { HasPass (turn_id turn.now) place.old × (2 ≤ (place_view place.old).weight) }
+    ensures { HasPass (turn_id turn.now) place.new × ((place_view place.new).weight ≡ (place_view place.old).weight) }
+{
+    for _ in 0..times {
+        let Two { left, right } = turn.split(take_pass(place)).unwrap();
+        put_pass(place, turn.join(left, right));
+    }
+}
+
+fn split_beside_pushes<R: Threads + Wait + Abort + Sync>(
+    rt: &R,
+    turn: &Turn<Tally>,
+    left: &mut Option<Pass>,
+    right: &mut Option<Pass>,
+)
+    requires left { HasPass (turn_id turn.now) left.old × (2 ≤ (place_view left.old).weight) }
+    requires right { HasPass (turn_id turn.now) right.old }
+    ensures left { HasPass (turn_id turn.now) left.new × ((place_view left.new).weight ≡ (place_view left.old).weight) }
+    ensures right { HasPass (turn_id turn.now) right.new × ((place_view right.new).weight ≡ (place_view right.old).weight) }
+{
+    join_mut(
+        rt,
+        &mut ||
+            requires { HasPass (turn_id turn.now) left.now × (2 ≤ (place_view left.now).weight) }
+            ensures { HasPass (turn_id turn.entry.now) left.exit.now × ((place_view left.exit.now).weight ≡ (place_view left.entry.now).weight) }
+        { split_and_join(turn, left, 500) },
+        &mut ||
+            requires { HasPass (turn_id turn.now) right.now }
+            ensures { HasPass (turn_id turn.entry.now) right.exit.now × ((place_view right.exit.now).weight ≡ (place_view right.entry.now).weight) }
+        { push_all(rt, turn, right, 0, 500) },
+    );
 }
