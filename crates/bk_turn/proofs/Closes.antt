@@ -41,9 +41,9 @@ module _ {S : Type 0} (stands : S → ℕ → Opening → List Step → Type 0) 
       → (x : S) × (get_elem? slots 0 ≡ some (Some x)) × stands x v.view.first v.view.opening v.view.seen
   closes id v words slots idle all final = let s = final.0 in let r = final.1.0 in let at = final.1.1 in let two = r.seen_from_the_front in let turn = two.one_turn id v at (ap is_live idle) in
       let others = all_gone s.views id v r.weights_are_whole at all in let free : busy s.views ≡ 0 = total-zero (λ (x : Seated). is_busy x.stage) s.views (λ k seat at'. dite (ℕ_discrete k id)
-          (λ e. let is : seat ≡ v = at_once s.views k id seat v at' at e in ap (λ (x : Seated). is_busy x.stage) is ∙ ap is_busy idle) (λ ne. gone_idle seat.stage (others k seat ne at'))) in
+      (λ e. let is : seat ≡ v = at_once s.views k id seat v at' at e in ap (λ (x : Seated). is_busy x.stage) is ∙ ap is_busy idle) (λ ne. gone_idle seat.stage (others k seat ne at'))) in
       let home = r.value_stands_for_the_longest.home free in let known = two.known in let all_seen : v.view.seen ≡ r.longest = dite (ℕ_discrete known.0 id)
-          (λ e. let is : known.1 ≡ v = at_once s.views known.0 id known.1 v known.2 at e in ap (λ (x : Seated). x.view.seen) (sym is) ∙ known.4) (λ ne. let d = others known.0 known.1 ne known.2 in absurd (cc (d, known.3))) in (
+      (λ e. let is : known.1 ≡ v = at_once s.views known.0 id known.1 v known.2 at e in ap (λ (x : Seated). x.view.seen) (sym is) ∙ known.4) (λ ne. let d = others known.0 known.1 ne known.2 in absurd (cc (d, known.3))) in (
         home.0,
         final.4 0 (Some home.0) (ap (λ (hs : List (maybe.Option (Option S))). get_elem? hs 0) home.1),
         subst (λ (z : ℕ × Opening × List Step). stands home.0 z.0 z.1 z.2) (λ k. (sym turn.0 k, sym turn.1 k, sym all_seen k)) home.2,

@@ -91,14 +91,14 @@ module _ {S : Type 0} (stands : S → ℕ → Opening → List Step → Type 0) 
         record { hit = λ _. (refl, not_full me.0.view.full (λ h. more (sym hit ∙ (is ∙ r.tickets_in_order.full id me.0 at h)))); full = λ miss. absurd (miss hit); miss = λ miss. absurd (miss hit) },
       ))
       (λ miss. dite (ℕ_discrete n 18446744073709551615)
-          (λ last. (
-            found_full me.0,
-            keeps,
-            tt,
-            drawn_full s r id me n at idle refl last,
-            record { hit = λ hit. absurd (miss hit); full = λ _ _. refl; miss = λ _ not. absurd (not last) },
-          ))
-          (λ other. nothing_changes stands first s r 1 n id me told at (ap (λ (ws : List ℕ). set ws 1 (get_or ws 1 0)) r.words ∙ sym r.words) record { hit = λ hit. absurd (miss hit); full = λ _ last. absurd (other last); miss = λ _ _. refl }))
+      (λ last. (
+        found_full me.0,
+        keeps,
+        tt,
+        drawn_full s r id me n at idle refl last,
+        record { hit = λ hit. absurd (miss hit); full = λ _ _. refl; miss = λ _ not. absurd (not last) },
+      ))
+      (λ other. nothing_changes stands first s r 1 n id me told at (ap (λ (ws : List ℕ). set ws 1 (get_or ws 1 0)) r.words ∙ sym r.words) record { hit = λ hit. absurd (miss hit); full = λ _ last. absurd (other last); miss = λ _ _. refl }))
 
   -- the same in a later try, where nothing has changed
   pub draws_again : (slots id : ℕ) (me began : Sat S) (old : ℕ) → me ≡ began → began.0.stage ≡ Idle → old ≢ 18446744073709551615 → Allows (Orderly stands first) slots id me 1 (λ n. either (eqb n old) (old + 1) n) (drawn (step slots 1 old (old + 1) none) me)

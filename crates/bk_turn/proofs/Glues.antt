@@ -85,8 +85,8 @@ module _ (l : List Seated) (id other : ℕ) (v w : Seated) (at : get_elem? l id 
       dite (ℕ_discrete known.0 id)
       (λ e. let is : known.1 ≡ v = at_once l known.0 id known.1 v known.2 at e in (id, both, here, live, enough v.view.seen left (ap (λ (x : Seated). x.view.seen) (sym is) ∙ known.4)))
       (λ n. dite (ℕ_discrete known.0 other)
-          (λ e. let is : known.1 ≡ w = at_once l known.0 other known.1 w known.2 at' e in (id, both, here, live, enough w.view.seen right (ap (λ (x : Seated). x.view.seen) (sym is) ∙ known.4)))
-          (λ n'. (known.0, known.1, set_else half other known.0 spent n' ∙ (set_else l id known.0 both n ∙ known.2), known.3, known.4)))
+      (λ e. let is : known.1 ≡ w = at_once l known.0 other known.1 w known.2 at' e in (id, both, here, live, enough w.view.seen right (ap (λ (x : Seated). x.view.seen) (sym is) ∙ known.4)))
+      (λ n'. (known.0, known.1, set_else half other known.0 spent n' ∙ (set_else l id known.0 both n ∙ known.2), known.3, known.4)))
 
   seen_joined : (first serving : ℕ) (o : Opening) (longest : List Step) → SeenFromTheFront first serving o longest l → NumbersAreApart first serving longest l → SeenFromTheFront first serving o longest after
   seen_joined first serving o longest r five = let live : is_live v.stage ≡ true = ap is_live idle in let live' : is_live w.stage ≡ true = ap is_live idle' in let turn = r.one_turn id v at live in let turn' = r.one_turn other w at' live' in

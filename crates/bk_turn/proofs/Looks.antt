@@ -77,11 +77,11 @@ module _ {S : Type 0} (stands : S → ℕ → Opening → List Step → Type 0) 
   nobody_busy : (s : State (Option S) Seated) (r : Orderly stands first s) (id : ℕ) (v : Seated) (t : ℕ) → get_elem? s.views id ≡ some v → v.stage ≡ Waiting t → r.serving ≡ t → busy s.views ≡ 0
   nobody_busy s r id v t at waits hit = total-zero (λ (x : Seated). is_busy x.stage) s.views (λ k seat at'. not_busy seat.stage
       (λ new. let same = one_place s.views k id seat v (r.slot_has_its_place.alone k seat at' new).0 at' at in let is : seat ≡ v = at_once s.views k id seat v at' at same in
-          let e : is_new v.stage ≡ true = ap (λ (x : Seated). is_new x.stage) (sym is) ∙ new in let f : is_new v.stage ≡ false = ap is_new waits in absurd (cc (e, f)))
+      let e : is_new v.stage ≡ true = ap (λ (x : Seated). is_new x.stage) (sym is) ∙ new in let f : is_new v.stage ≡ false = ap is_new waits in absurd (cc (e, f)))
       (λ u holds. let here : u ≡ r.serving = r.slot_has_its_place.turns k seat at' u holds in dite (ℕ_discrete k id)
-          (λ same. let is : seat ≡ v = at_once s.views k id seat v at' at same in let e : Holding u ≡ Waiting t = sym holds ∙ (ap (λ (x : Seated). x.stage) is ∙ waits) in absurd (cc (e)))
-          (λ other. let two = total-two (λ (x : Seated). has_ticket t x.stage) s.views k id seat v other at' at in let a : has_ticket t seat.stage ≡ 1 = ap (has_ticket t) holds ∙ one_if_same u t (here ∙ hit) in
-              let b : has_ticket t v.stage ≡ 1 = ap (has_ticket t) waits ∙ one_if_same t t refl in let m = one_ticket first r.serving r.ticket t s.views r.tickets_in_order in absurd (omega arith))))
+      (λ same. let is : seat ≡ v = at_once s.views k id seat v at' at same in let e : Holding u ≡ Waiting t = sym holds ∙ (ap (λ (x : Seated). x.stage) is ∙ waits) in absurd (cc (e)))
+      (λ other. let two = total-two (λ (x : Seated). has_ticket t x.stage) s.views k id seat v other at' at in let a : has_ticket t seat.stage ≡ 1 = ap (has_ticket t) holds ∙ one_if_same u t (here ∙ hit) in
+      let b : has_ticket t v.stage ≡ 1 = ap (has_ticket t) waits ∙ one_if_same t t refl in let m = one_ticket first r.serving r.ticket t s.views r.tickets_in_order in absurd (omega arith))))
 
   look_hit : (s : State (Option S) Seated) (r : Orderly stands first s) (id : ℕ) (me : Sat S) (t : ℕ) → get_elem? s.views id ≡ some me.0 → me.0.stage ≡ Waiting t → r.serving ≡ t → busy s.views ≡ 0
       → Goes stands first s 0 id me (λ m. TakesTurn stands t me m) (get_or s.words 0 0)
@@ -124,7 +124,7 @@ module _ {S : Type 0} (stands : S → ℕ → Opening → List Step → Type 0) 
       let mine : (u : ℕ) → me.0.stage ≡ Waiting u → t ≡ u = λ u e. let same : Waiting t ≡ Waiting u = sym waits ∙ e in cc (same) in
       dite (ℕ_discrete n t)
       (λ hit. let free = nobody_busy s r id me.0 t at waits (sym is ∙ hit) in let g = look_hit s r id me t at waits (sym is ∙ hit) free in
-          (g.0, g.1, g.2, g.3, λ u e. ((λ _. subst (λ (z : ℕ). TakesTurn stands z me (g.0, Rattle.atomic_table.specs.Table.carried_after me.1 g.1)) (mine u e) g.4), λ miss. absurd (miss (hit ∙ mine u e)))))
+      (g.0, g.1, g.2, g.3, λ u e. ((λ _. subst (λ (z : ℕ). TakesTurn stands z me (g.0, Rattle.atomic_table.specs.Table.carried_after me.1 g.1)) (mine u e) g.4), λ miss. absurd (miss (hit ∙ mine u e)))))
       (λ miss. nothing_changes stands first s r 0 n id me (looked stands (step slots 0 0 0 none) me n) at (ap (λ (ws : List ℕ). set ws 0 (get_or ws 0 0)) r.words ∙ sym r.words) (λ u e. ((λ hit. absurd (miss (hit ∙ sym (mine u e)))), λ _. refl)))
 
   -- a seat that took the slot knows as much once the value was moved out of it

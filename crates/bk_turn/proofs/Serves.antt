@@ -49,8 +49,8 @@ others_idle : {S : Type 0} (first serving ticket : ℕ) (homes : List (maybe.Opt
 others_idle first serving ticket homes l id v one three at holds k seat ne at' = not_busy seat.stage
     (λ new. ne (one_place l k id seat v (three.alone k seat at' new).0 at' at))
     (λ u e. let here : u ≡ serving = three.turns k seat at' u e in let two = total-two (λ (x : Seated). has_ticket serving x.stage) l k id seat v ne at' at in
-        let a : has_ticket serving seat.stage ≡ 1 = ap (has_ticket serving) e ∙ one_if_same u serving here in let b : has_ticket serving v.stage ≡ 1 = ap (has_ticket serving) holds ∙ one_if_same serving serving refl in
-        let m = one_ticket first serving ticket serving l one in absurd (omega arith))
+    let a : has_ticket serving seat.stage ≡ 1 = ap (has_ticket serving) e ∙ one_if_same u serving here in let b : has_ticket serving v.stage ≡ 1 = ap (has_ticket serving) holds ∙ one_if_same serving serving refl in
+    let m = one_ticket first serving ticket serving l one in absurd (omega arith))
 
 slot_served : {S : Type 0} (first serving ticket : ℕ) (homes homes' : List (maybe.Option (Option S))) (l : List Seated) (id : ℕ) (w : Seated) → ((k : ℕ) (seat : Seated) → k ≢ id → get_elem? l k ≡ some seat → is_busy seat.stage ≡ 0)
     → w.stage ≡ Idle → SlotHasItsPlace first (serving + 1) ticket homes' (set l id w)

@@ -56,7 +56,7 @@ abbrev pub joined : Seated → Seated → Seated
 joined left right = record {
   view = joined_view left.view right.view;
   note = record { opening = right.view.opening; left = left.view.seen; right = right.view.seen; number = right.view.number; first = right.view.first };
-  stage = left.stage
+  stage = left.stage;
 }
 
 -- what is true of a note: the two passes were of one turn, and what each had seen begins what is seen now

@@ -12,9 +12,9 @@ mod seats;
 mod sharing;
 mod stands;
 mod steps;
-mod turns;
 #[cfg(test)]
 mod tests;
+mod turns;
 mod views;
 
 pub use holdings::Holding;

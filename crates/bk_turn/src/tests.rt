@@ -10,7 +10,10 @@ ghost use Rattle.bk_turn.specs.History.{Ends};
 ghost use Rattle.bk_turn.specs.Places.{place_view, HasPass};
 ghost use Rattle.bk_turn.specs.Pushes.{ArePushes, Pushes, push_step};
 
-use crate::{Holding, NoTurn, Opened, Pass, Spent, Stands, Turn, Two, drop_places, empty_places, put_pass, take_pass};
+use crate::{
+    Holding, NoTurn, Opened, Pass, Spent, Stands, Turn, Two, drop_places, empty_places, put_pass,
+    take_pass,
+};
 use std::alloc::Global;
 use std::process::Abort;
 use std::sync::Wait;
@@ -40,12 +43,7 @@ fn leave_pushed(turn: &Turn<Tally>, holding: Holding<Tally>, number: u64) -> Pas
 }
 
 /// Pushes a number in one turn, and says whether it did: not where the tickets are used up.
-fn push<R: Wait + Abort>(
-    rt: &R,
-    turn: &Turn<Tally>,
-    place: &mut Option<Pass>,
-    number: u64,
-) -> bool
+fn push<R: Wait + Abort>(rt: &R, turn: &Turn<Tally>, place: &mut Option<Pass>, number: u64) -> bool
     requires { HasPass (turn_id turn.now) place.old }
     ensures turn { HasPass (turn_id turn.now) place.new }
     ensures pushed { OnTrue result (Pushes (place_view place.old) number (place_view place.new)) }
@@ -201,13 +199,18 @@ fn push_by_each<R: Threads + Wait + Abort + Sync>(
     ensures turn { All (HasPass (turn_id turn.now)) places.new }
     ensures weight { (i : ℕ) (d : Option Pass) → i < length places.old → (place_view (slice_index_or places.new i d)).weight ≡ (place_view (slice_index_or places.old i d)).weight }
 {
-    for_each_mut(rt, places, 8, &|i: usize, place: &mut Option<Pass>|
-        requires { HasPass (turn_id turn.now) place.old × (i < 8) }
-        ensures { HasPass (turn_id turn.entry.now) place.new × ((place_view place.new).weight ≡ (place_view place.old).weight) }
-    {
-        let from = 100 * i as u64;
-        push_all(rt, turn, place, from, from + 100)
-    });
+    for_each_mut(
+        rt,
+        places,
+        8,
+        &|i: usize, place: &mut Option<Pass>|
+            requires { HasPass (turn_id turn.now) place.old × (i < 8) }
+            ensures { HasPass (turn_id turn.entry.now) place.new × ((place_view place.new).weight ≡ (place_view place.old).weight) }
+        {
+            let from = 100 * i as u64;
+            push_all(rt, turn, place, from, from + 100)
+        },
+    );
 }
 
 #[test]

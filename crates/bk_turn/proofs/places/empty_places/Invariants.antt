@@ -5,5 +5,5 @@ abbrev pub invariant-loop : goal.invariant-loop
 invariant-loop l = record {
   len : vec_len l.places ≡ l.counter;
   room : l.count ≤ vec_capacity l.places;
-  empty : All (λ place. place ≡ None) l.places.items
+  empty : All (λ place. place ≡ None) l.places.items;
 }

@@ -6,5 +6,5 @@ invariant-loop g l = record {
   going : (goal.iterator-loop g).can_next l.iterator' × (goal.iterator-loop g).is_finite l.iterator';
   table : l.seat.table_id ≡ l.initial.seat.table_id;
   seat : l.seat.me ≡ l.initial.seat.me;
-  ticket : l.ticket ≢ 18446744073709551615
+  ticket : l.ticket ≢ 18446744073709551615;
 }

@@ -5,5 +5,5 @@ abbrev pub invariant-loop : goal.invariant-loop
 invariant-loop g l = record {
   going : (goal.iterator-loop g).can_next l.iterator' × (goal.iterator-loop g).is_finite l.iterator';
   table : l.seat.table_id ≡ l.initial.seat.table_id;
-  seat : l.seat.me ≡ l.initial.seat.me
+  seat : l.seat.me ≡ l.initial.seat.me;
 }

@@ -8,5 +8,5 @@ abbrev pub invariant-loop-number : goal.invariant-loop-number
 invariant-loop-number g l = record {
   turn : HasPass (turn_id l.turn) l.place;
   weight : (place_view l.place).weight ≡ (place_view l.initial.place).weight;
-  seen : IsPrefix (place_view l.initial.place).seen (place_view l.place).seen
+  seen : IsPrefix (place_view l.initial.place).seen (place_view l.place).seen;
 }

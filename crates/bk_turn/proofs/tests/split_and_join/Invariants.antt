@@ -6,5 +6,5 @@ use Rattle.bk_turn.proofs.tests.split_and_join.Given as goal
 abbrev pub invariant-loop : goal.invariant-loop
 invariant-loop l = record {
   turn : HasPass (turn_id l.turn) l.place;
-  weight : (place_view l.place).weight ≡ (place_view l.initial.place).weight
+  weight : (place_view l.place).weight ≡ (place_view l.initial.place).weight;
 }

@@ -15,5 +15,5 @@ invariant-loop-place g l = let old = pass_view l.initial.pass in let now = pass_
   number : now.number ≡ old.number;
   own : own_of old.number now.seen ≡ own_of old.number old.seen;
   emptied : (k : ℕ) (d : Option Pass) → k < l.place-index → get_or l.places k d ≡ None;
-  left : (k : ℕ) (d : Option Pass) → l.place-index ≤ k → k < length l.places → get_or l.places k d ≡ get_or l.initial.places k d
+  left : (k : ℕ) (d : Option Pass) → l.place-index ≤ k → k < length l.places → get_or l.places k d ≡ get_or l.initial.places k d;
 }
