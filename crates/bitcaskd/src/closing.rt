@@ -12,7 +12,8 @@ use bk_disk::Disk;
 pub fn close<D: Disk>(store: &mut Store<D>, status: Status) -> Status
     requires { IsSyncedAt status → IsTrue D.tells → Stands (D.told store.old.disk) store.old.index }
     ensures image { IsTrue D.tells → (D.told store.new.disk).image ≡ (D.told store.old.disk).image }
-    ensures closes { ClosesBy D.tells status result (D.told store.new.disk) (D.faults store.old.disk) (D.faults store.new.disk) }
+    ensures closes { ClosesBy D.tells status result (D.told store.new.disk)
+        (D.faults store.old.disk) (D.faults store.new.disk) }
     ensures views { D.weak_views store.new.disk ≡ D.weak_views store.old.disk }
     ensures later { D.faults store.old.disk ≤ D.faults store.new.disk }
 {

@@ -13,7 +13,8 @@ Usage:\n\
 DIR is a folder that is there and has no file of a store. One process at a time has it.\n\
 \n\
 Requests. Numbers are decimal without leading zeros, and each line ends in a line feed.\n\
-\x20 PUT k v    then k bytes of key (1 to 65535), v bytes of value (0 to 16777216) and a line feed.\n\
+\x20 PUT k v    then k bytes of key (1 to 65535), v bytes of value
+    (0 to 16777216) and a line feed.\n\
 \x20            The reply is OK and the number of the write.\n\
 \x20 GET k      then k bytes of key and a line feed. The reply is VALUE and the number of bytes, then\n\
 \x20            the bytes and a line feed; or NONE.\n\

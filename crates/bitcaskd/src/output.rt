@@ -7,8 +7,10 @@ use bk_disk::{Failed, Sink};
 
 /// Writes all replies that were gathered. After `Failed` the sink took a first part of them.
 pub fn flush<K: Sink>(sink: &mut K, replies: &mut Vec<u8>) -> Result<(), Failed>
-    ensures wrote { IsTrue K.tells → OnOk result (Wrote (K.written sink.old) (K.written sink.new) replies.old.items) }
-    ensures part { IsTrue K.tells → OnErr result (LeftOver (K.written sink.old) (K.written sink.new) replies.old.items) }
+    ensures wrote { IsTrue K.tells → OnOk result
+        (Wrote (K.written sink.old) (K.written sink.new) replies.old.items) }
+    ensures part { IsTrue K.tells → OnErr result
+        (LeftOver (K.written sink.old) (K.written sink.new) replies.old.items) }
     ensures empty { OnOk result (replies.new.items ≡ []) }
     ensures kept { OnErr result (replies.new.items ≡ replies.old.items) }
     ensures cause { IsCaused (K.faults sink.old) (K.faults sink.new) result }
@@ -20,8 +22,10 @@ pub fn flush<K: Sink>(sink: &mut K, replies: &mut Vec<u8>) -> Result<(), Failed>
 
 /// Writes a whole piece.
 fn write_all<K: Sink>(sink: &mut K, piece: &[u8]) -> Result<(), Failed>
-    ensures wrote { IsTrue K.tells → OnOk result (Wrote (K.written sink.old) (K.written sink.new) piece.now) }
-    ensures part { IsTrue K.tells → OnErr result (LeftOver (K.written sink.old) (K.written sink.new) piece.now) }
+    ensures wrote { IsTrue K.tells → OnOk result
+        (Wrote (K.written sink.old) (K.written sink.new) piece.now) }
+    ensures part { IsTrue K.tells → OnErr result
+        (LeftOver (K.written sink.old) (K.written sink.new) piece.now) }
     ensures cause { IsCaused (K.faults sink.old) (K.faults sink.new) result }
 {
     let mut at = 0;

@@ -23,8 +23,10 @@ fn serve<D: Disk, C: Clock>(
     requires fits { Fits request }
     requires file { store.old.index.end + 23 * length (request_text request) < 2 ^ 63 }
     requires seq { store.old.index.last + length (request_text request) < 2 ^ 63 }
-    ensures end { OnOk result (store.new.index.end ≤ store.old.index.end + 23 * length (request_text request)) }
-    ensures last { OnOk result (store.new.index.last ≤ store.old.index.last + length (request_text request)) }
+    ensures end { OnOk result (store.new.index.end ≤ store.old.index.end + 23 * length
+        (request_text request)) }
+    ensures last { OnOk result (store.new.index.last ≤ store.old.index.last + length
+        (request_text request)) }
     ensures ok { IfOk result (λ reply. Served D.tells C.tells request reply
         (record { told = D.told store.old.disk; index = store.old.index; faults = D.faults store.old.disk; views = D.weak_views store.old.disk; moments = C.moments clock.old })
         (record { told = D.told store.new.disk; index = store.new.index; faults = D.faults store.new.disk; views = D.weak_views store.new.disk; moments = C.moments clock.new })) }
@@ -32,7 +34,9 @@ fn serve<D: Disk, C: Clock>(
         (record { told = D.told store.old.disk; index = store.old.index; faults = D.faults store.old.disk; views = D.weak_views store.old.disk; moments = C.moments clock.old })
         (record { told = D.told store.new.disk; index = store.new.index; faults = D.faults store.new.disk; views = D.weak_views store.new.disk; moments = C.moments clock.new })) }
     ensures later { D.faults store.old.disk ≤ D.faults store.new.disk }
-    ensures disk { IsErrOf result Refusal.Disk → Rose (D.faults store.old.disk) (D.faults store.new.disk) ⊎ Rose (D.weak_views store.old.disk) (D.weak_views store.new.disk) }
+    ensures disk { IsErrOf result Refusal.Disk → Rose (D.faults store.old.disk)
+        (D.faults store.new.disk) ⊎ Rose (D.weak_views store.old.disk)
+        (D.weak_views store.new.disk) }
 {
     let now = clock.now();
     match request {
@@ -60,8 +64,10 @@ pub fn answer<D: Disk, C: Clock>(
     requires fits { Fits request }
     requires file { store.old.index.end + 23 * length (request_text request) < 2 ^ 63 }
     requires seq { store.old.index.last + length (request_text request) < 2 ^ 63 }
-    ensures end { OnOk result (store.new.index.end ≤ store.old.index.end + 23 * length (request_text request)) }
-    ensures last { OnOk result (store.new.index.last ≤ store.old.index.last + length (request_text request)) }
+    ensures end { OnOk result (store.new.index.end ≤ store.old.index.end + 23 * length
+        (request_text request)) }
+    ensures last { OnOk result (store.new.index.last ≤ store.old.index.last + length
+        (request_text request)) }
     ensures ok { OnOk result (Answered D.tells C.tells request
         (record { told = D.told store.old.disk; index = store.old.index; faults = D.faults store.old.disk; views = D.weak_views store.old.disk; moments = C.moments clock.old })
         (record { told = D.told store.new.disk; index = store.new.index; faults = D.faults store.new.disk; views = D.weak_views store.new.disk; moments = C.moments clock.new })
@@ -71,7 +77,9 @@ pub fn answer<D: Disk, C: Clock>(
         (record { told = D.told store.new.disk; index = store.new.index; faults = D.faults store.new.disk; views = D.weak_views store.new.disk; moments = C.moments clock.new })) }
     ensures kept { OnErr result (replies.new.items ≡ replies.old.items) }
     ensures later { D.faults store.old.disk ≤ D.faults store.new.disk }
-    ensures disk { IsErrOf result Refusal.Disk → Rose (D.faults store.old.disk) (D.faults store.new.disk) ⊎ Rose (D.weak_views store.old.disk) (D.weak_views store.new.disk) }
+    ensures disk { IsErrOf result Refusal.Disk → Rose (D.faults store.old.disk)
+        (D.faults store.new.disk) ⊎ Rose (D.weak_views store.old.disk)
+        (D.weak_views store.new.disk) }
 {
     let reply = match serve(alloc, store, clock, request) {
         Ok(reply) => reply,

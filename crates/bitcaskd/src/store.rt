@@ -52,10 +52,13 @@ impl<D: Disk> Store<D> {
         requires { IsTrue D.tells → Stands (D.told self.old.disk) self.old.index }
         ensures index { OnOk result (self.new.index ≡ record self.old.index { made = true }) }
         ensures same { OnErr result (self.new.index ≡ self.old.index) }
-        ensures holds { IsTrue D.tells → OnOk result (KeepsLog (D.told self.old.disk) self.old.index (D.told self.new.disk) self.new.index) }
-        ensures err { IsTrue D.tells → OnErr result (LeavesLog (D.told self.old.disk) self.old.index (D.told self.new.disk)) }
+        ensures holds { IsTrue D.tells → OnOk result
+            (KeepsLog (D.told self.old.disk) self.old.index (D.told self.new.disk) self.new.index) }
+        ensures err { IsTrue D.tells → OnErr result
+            (LeavesLog (D.told self.old.disk) self.old.index (D.told self.new.disk)) }
         ensures later { D.faults self.old.disk ≤ D.faults self.new.disk }
-        ensures disk { IsErrOf result Refusal.Disk → Rose (D.faults self.old.disk) (D.faults self.new.disk) }
+        ensures disk { IsErrOf result Refusal.Disk → Rose (D.faults self.old.disk)
+            (D.faults self.new.disk) }
         ensures views { D.weak_views self.new.disk ≡ D.weak_views self.old.disk }
     {
         if !self.index.made {
@@ -69,10 +72,14 @@ impl<D: Disk> Store<D> {
     fn append(&mut self, text: &[u8]) -> Result<(), Refusal>
         requires { IsTrue D.tells → IsOurs DATA (D.told self.old.disk) }
         ensures index { self.new.index ≡ self.old.index }
-        ensures ok { IsTrue D.tells → OnOk result (Appended DATA (length text.now) text.now (D.told self.old.disk) (D.told self.new.disk)) }
-        ensures err { IsTrue D.tells → OnErr result (AppendsPart text.now (D.told self.old.disk).image (D.told self.new.disk).image) }
+        ensures ok { IsTrue D.tells → OnOk result
+            (Appended DATA (length text.now) text.now (D.told self.old.disk)
+            (D.told self.new.disk)) }
+        ensures err { IsTrue D.tells → OnErr result
+            (AppendsPart text.now (D.told self.old.disk).image (D.told self.new.disk).image) }
         ensures later { D.faults self.old.disk ≤ D.faults self.new.disk }
-        ensures disk { IsErrOf result Refusal.Disk → Rose (D.faults self.old.disk) (D.faults self.new.disk) }
+        ensures disk { IsErrOf result Refusal.Disk → Rose (D.faults self.old.disk)
+            (D.faults self.new.disk) }
         ensures views { D.weak_views self.new.disk ≡ D.weak_views self.old.disk }
     {
         self.disk.ready(DATA, text.len() as u64)?;
@@ -95,11 +102,17 @@ impl<D: Disk> Store<D> {
         requires seq { self.old.index.last + 1 < 2 ^ 63 }
         ensures seq { IfOk result (λ seq. seq.0 ≡ self.old.index.last + 1) }
         ensures last { OnOk result (self.new.index.last ≡ self.old.index.last + 1) }
-        ensures end { OnOk result (self.new.index.end ≡ self.old.index.end + (22 + length key + length value)) }
-        ensures ok { IsTrue D.tells → IfOk result (λ seq. PutDone (D.told self.old.disk) self.old.index (D.told self.new.disk) self.new.index (put_of seq now key value)) }
-        ensures err { IsTrue D.tells → OnErr result (PutRefused (D.told self.old.disk) self.old.index (D.told self.new.disk) (put_of (next_of self.old.index) now key value)) }
+        ensures end { OnOk result (self.new.index.end ≡ self.old.index.end +
+            (22 + length key + length value)) }
+        ensures ok { IsTrue D.tells → IfOk result
+            (λ seq. PutDone (D.told self.old.disk) self.old.index
+            (D.told self.new.disk) self.new.index (put_of seq now key value)) }
+        ensures err { IsTrue D.tells → OnErr result
+            (PutRefused (D.told self.old.disk) self.old.index (D.told self.new.disk)
+            (put_of (next_of self.old.index) now key value)) }
         ensures later { D.faults self.old.disk ≤ D.faults self.new.disk }
-        ensures disk { IsErrOf result Refusal.Disk → Rose (D.faults self.old.disk) (D.faults self.new.disk) }
+        ensures disk { IsErrOf result Refusal.Disk → Rose (D.faults self.old.disk)
+            (D.faults self.new.disk) }
         ensures views { D.weak_views self.new.disk ≡ D.weak_views self.old.disk }
     {
         let seq = Seq(self.index.last + 1);
@@ -123,12 +136,17 @@ impl<D: Disk> Store<D> {
     pub fn get(&mut self, alloc: Global, key: &Key) -> Result<Option<Value>, Refusal>
         requires { IsTrue D.tells → Stands (D.told self.old.disk) self.old.index }
         ensures index { self.new.index ≡ self.old.index }
-        ensures found { IsTrue D.tells → IfOk result (λ found. GetDone (D.told self.old.disk) self.old.index key.now found) }
-        ensures image { IsTrue D.tells → (D.told self.new.disk).image ≡ (D.told self.old.disk).image }
-        ensures fronts { IsTrue D.tells → (D.told self.new.disk).fronts ≡ (D.told self.old.disk).fronts }
+        ensures found { IsTrue D.tells → IfOk result
+            (λ found. GetDone (D.told self.old.disk) self.old.index key.now found) }
+        ensures image { IsTrue D.tells → (D.told self.new.disk).image ≡
+            (D.told self.old.disk).image }
+        ensures fronts { IsTrue D.tells → (D.told self.new.disk).fronts ≡
+            (D.told self.old.disk).fronts }
         ensures faults { D.faults self.old.disk ≤ D.faults self.new.disk }
         ensures views { Counts (D.weak_views self.old.disk) (D.weak_views self.new.disk) }
-        ensures disk { IsErrOf result Refusal.Disk → Rose (D.faults self.old.disk) (D.faults self.new.disk) ⊎ Rose (D.weak_views self.old.disk) (D.weak_views self.new.disk) }
+        ensures disk { IsErrOf result Refusal.Disk → Rose (D.faults self.old.disk)
+            (D.faults self.new.disk) ⊎ Rose (D.weak_views self.old.disk)
+            (D.weak_views self.new.disk) }
     {
         let Some(place) = self.index.place(key) else {
             return Ok(None);
@@ -142,7 +160,8 @@ impl<D: Disk> Store<D> {
         requires { IsTrue D.tells → Stands (D.told self.old.disk) self.old.index }
         ensures seq { IfOk result (λ seq. seq.0 ≡ self.old.index.last) }
         ensures index { self.new.index ≡ self.old.index }
-        ensures image { IsTrue D.tells → (D.told self.new.disk).image ≡ (D.told self.old.disk).image }
+        ensures image { IsTrue D.tells → (D.told self.new.disk).image ≡
+            (D.told self.old.disk).image }
         ensures synced { IsTrue D.tells → OnOk result (IsSynced (D.told self.new.disk)) }
         ensures cause { IsCaused (D.faults self.old.disk) (D.faults self.new.disk) result }
         ensures views { D.weak_views self.new.disk ≡ D.weak_views self.old.disk }
@@ -178,7 +197,8 @@ fn read_value<V: View + Drop>(alloc: Global, mut view: V, place: Place) -> Resul
 /// Fills a slice from a view.
 fn fill<V: View>(view: &mut V, into: &mut [u8]) -> Result<(), Failed>
     requires { V.rest view.old ≡ length into.old }
-    ensures bytes { IsTrue V.tells → OnOk result (into.new ≡ take (length into.old) (V.left view.old)) }
+    ensures bytes { IsTrue V.tells → OnOk result
+        (into.new ≡ take (length into.old) (V.left view.old)) }
     ensures failed { OnErr result (V.weak view.old ≡ true) }
 {
     let mut at = 0;

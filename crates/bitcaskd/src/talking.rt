@@ -34,7 +34,8 @@ struct Desk {
 
 /// Writes the replies before the run ends, as far as the sink takes them.
 fn write_last<K: Sink>(sink: &mut K, replies: &mut Vec<u8>)
-    ensures flushed { Flushed K.tells (K.written sink.old) (K.written sink.new) replies.old.items (K.faults sink.old) (K.faults sink.new) }
+    ensures flushed { Flushed K.tells (K.written sink.old) (K.written sink.new) replies.old.items
+        (K.faults sink.old) (K.faults sink.new) }
     ensures later { K.faults sink.old ≤ K.faults sink.new }
 {
     let _ = flush(sink, replies);
@@ -53,15 +54,22 @@ fn ask<D: Disk, K: Sink, C: Clock>(
     requires fits { Fits request }
     requires end { store.old.index.end + 23 * length (request_text request) ≤ 23 * MOST }
     requires last { store.old.index.last + length (request_text request) ≤ MOST }
-    ensures end { result ≡ None → store.new.index.end ≤ store.old.index.end + 23 * length (request_text request) }
-    ensures last { result ≡ None → store.new.index.last ≤ store.old.index.last + length (request_text request) }
-    ensures stands { result ≡ None → IsTrue D.tells → Stands (D.told store.new.disk) store.new.index }
+    ensures end { result ≡ None → store.new.index.end ≤ store.old.index.end + 23 * length
+        (request_text request) }
+    ensures last { result ≡ None → store.new.index.last ≤ store.old.index.last + length
+        (request_text request) }
+    ensures stands { result ≡ None → IsTrue D.tells → Stands
+        (D.told store.new.disk) store.new.index }
     ensures turns { Asks result D.tells K.tells C.tells request
-        (site_of (D.told store.old.disk) store.old.index (D.faults store.old.disk) (D.weak_views store.old.disk) (C.moments clock.old))
+        (site_of (D.told store.old.disk) store.old.index (D.faults store.old.disk)
+        (D.weak_views store.old.disk) (C.moments clock.old))
         (K.written sink.old) (K.faults sink.old) replies.old.items
-        (site_of (D.told store.new.disk) store.new.index (D.faults store.new.disk) (D.weak_views store.new.disk) (C.moments clock.new))
+        (site_of (D.told store.new.disk) store.new.index (D.faults store.new.disk)
+        (D.weak_views store.new.disk) (C.moments clock.new))
         (K.written sink.new) (K.faults sink.new) replies.new.items }
-    ensures disk { result ≡ Some Status.Disk → Rose (D.faults store.old.disk) (D.faults store.new.disk) ⊎ Rose (D.weak_views store.old.disk) (D.weak_views store.new.disk) }
+    ensures disk { result ≡ Some Status.Disk → Rose (D.faults store.old.disk)
+        (D.faults store.new.disk) ⊎ Rose (D.weak_views store.old.disk)
+        (D.weak_views store.new.disk) }
     ensures sink { result ≡ Some Status.Sink → Rose (K.faults sink.old) (K.faults sink.new) }
     ensures not_source { result ≢ Some Status.Source }
     ensures faults { D.faults store.old.disk ≤ D.faults store.new.disk }
@@ -90,7 +98,9 @@ pub fn status_of(refusal: Refusal) -> Status
 /// Writes the replies once many are gathered.
 fn write_if_many<K: Sink>(sink: &mut K, replies: &mut Vec<u8>) -> Option<Status>
     ensures later { K.faults sink.old ≤ K.faults sink.new }
-    ensures writes { WritesSome result K.tells (K.written sink.old) (K.faults sink.old) replies.old.items (K.written sink.new) (K.faults sink.new) replies.new.items }
+    ensures writes { WritesSome result K.tells (K.written sink.old)
+        (K.faults sink.old) replies.old.items (K.written sink.new)
+        (K.faults sink.new) replies.new.items }
 {
     if replies.len() < GATHER {
         return None;
@@ -112,10 +122,14 @@ fn read_on<S: Source, K: Sink>(desk: &mut Desk, source: &mut S, sink: &mut K) ->
     ensures more { result ≡ None → length desk.old.reader.rest < length desk.new.reader.rest }
     ensures most { desk.new.reader.most ≡ MOST }
     ensures within { taken desk.new.reader ≤ MOST }
-    ensures turns { (disk_tells clock_tells : Bool) (site : Site) → Turns result (telling disk_tells S.tells K.tells clock_tells)
-        (scene_of site (S.whole source.old) (S.taken source.old) (K.written sink.old) (K.faults sink.old)) desk.old.reader desk.old.replies.items
-        (scene_of site (S.whole source.new) (S.taken source.new) (K.written sink.new) (K.faults sink.new)) desk.new.reader desk.new.replies.items }
-    ensures source { result ≡ Some Status.Source → Rose (S.faults source.old) (S.faults source.new) }
+    ensures turns { (disk_tells clock_tells : Bool) (site : Site) → Turns result
+        (telling disk_tells S.tells K.tells clock_tells)
+        (scene_of site (S.whole source.old) (S.taken source.old) (K.written sink.old)
+        (K.faults sink.old)) desk.old.reader desk.old.replies.items
+        (scene_of site (S.whole source.new) (S.taken source.new) (K.written sink.new)
+        (K.faults sink.new)) desk.new.reader desk.new.replies.items }
+    ensures source { result ≡ Some Status.Source → Rose (S.faults source.old)
+        (S.faults source.new) }
     ensures sink { result ≡ Some Status.Sink → Rose (K.faults sink.old) (K.faults sink.new) }
     ensures not_disk { result ≢ Some Status.Disk }
     ensures took { S.faults source.old ≤ S.faults source.new }
@@ -161,18 +175,26 @@ fn turn<D: Disk, S: Source, K: Sink, C: Clock>(
 ) -> Option<Status>
     requires stands { IsTrue D.tells → Stands (D.told store.old.disk) store.old.index }
     requires ready { IsReady store.old.index desk.old.reader desk.old.piece.items }
-    ensures stands { result ≡ None → IsTrue D.tells → Stands (D.told store.new.disk) store.new.index }
+    ensures stands { result ≡ None → IsTrue D.tells → Stands
+        (D.told store.new.disk) store.new.index }
     ensures ready { result ≡ None → IsReady store.new.index desk.new.reader desk.new.piece.items }
     ensures fewer { result ≡ None → work_left desk.new.reader < work_left desk.old.reader }
     ensures turns { Turns result (telling D.tells S.tells K.tells C.tells)
-        (scene_of (site_of (D.told store.old.disk) store.old.index (D.faults store.old.disk) (D.weak_views store.old.disk) (C.moments clock.old))
-        (S.whole source.old) (S.taken source.old) (K.written sink.old) (K.faults sink.old)) desk.old.reader desk.old.replies.items
-        (scene_of (site_of (D.told store.new.disk) store.new.index (D.faults store.new.disk) (D.weak_views store.new.disk) (C.moments clock.new))
-        (S.whole source.new) (S.taken source.new) (K.written sink.new) (K.faults sink.new)) desk.new.reader desk.new.replies.items }
+        (scene_of (site_of (D.told store.old.disk) store.old.index (D.faults store.old.disk)
+        (D.weak_views store.old.disk) (C.moments clock.old))
+        (S.whole source.old) (S.taken source.old) (K.written sink.old)
+        (K.faults sink.old)) desk.old.reader desk.old.replies.items
+        (scene_of (site_of (D.told store.new.disk) store.new.index (D.faults store.new.disk)
+        (D.weak_views store.new.disk) (C.moments clock.new))
+        (S.whole source.new) (S.taken source.new) (K.written sink.new)
+        (K.faults sink.new)) desk.new.reader desk.new.replies.items }
     ensures faults { D.faults store.old.disk ≤ D.faults store.new.disk }
-    ensures disk { result ≡ Some Status.Disk → Rose (D.faults store.old.disk) (D.faults store.new.disk) ⊎ Rose (D.weak_views store.old.disk) (D.weak_views store.new.disk) }
+    ensures disk { result ≡ Some Status.Disk → Rose (D.faults store.old.disk)
+        (D.faults store.new.disk) ⊎ Rose (D.weak_views store.old.disk)
+        (D.weak_views store.new.disk) }
     ensures took { S.faults source.old ≤ S.faults source.new }
-    ensures source { result ≡ Some Status.Source → Rose (S.faults source.old) (S.faults source.new) }
+    ensures source { result ≡ Some Status.Source → Rose (S.faults source.old)
+        (S.faults source.new) }
     ensures wrote { K.faults sink.old ≤ K.faults sink.new }
     ensures sink { result ≡ Some Status.Sink → Rose (K.faults sink.old) (K.faults sink.new) }
     ensures built { IfSome result IsBuilt }
@@ -190,7 +212,8 @@ fn turn<D: Disk, S: Source, K: Sink, C: Clock>(
 
 /// No request stands at the front of what was taken: the replies before it are written.
 fn stop_at_bad<K: Sink>(replies: &mut Vec<u8>, sink: &mut K) -> Option<Status>
-    ensures { StopsAtBad result K.tells (K.written sink.old) (K.faults sink.old) replies.old.items (K.written sink.new) (K.faults sink.new) }
+    ensures { StopsAtBad result K.tells (K.written sink.old) (K.faults sink.old) replies.old.items
+        (K.written sink.new) (K.faults sink.new) }
 {
     match flush(sink, replies) {
         Ok(()) => Some(Status::NotBuilt),
@@ -201,7 +224,8 @@ fn stop_at_bad<K: Sink>(replies: &mut Vec<u8>, sink: &mut K) -> Option<Status>
 impl Desk {
     /// An empty desk.
     fn new(alloc: Global) -> Result<Desk, Memory>
-        ensures reader { IfOk result (λ desk. desk.reader ≡ record { rest = []; offset = 0; most = MOST }) }
+        ensures reader { IfOk result
+            (λ desk. desk.reader ≡ record { rest = []; offset = 0; most = MOST }) }
         ensures replies { IfOk result (λ desk. desk.replies.items ≡ []) }
         ensures piece { IfOk result (λ desk. 0 < length desk.piece.items) }
     {
@@ -229,12 +253,15 @@ pub fn talk<D: Disk, S: Source, K: Sink, C: Clock>(
     requires end { store.old.index.end ≡ 0 }
     requires last { store.old.index.last ≡ 0 }
     ensures stopped { Stopped (telling D.tells S.tells K.tells C.tells)
-        (scene_of (site_of (D.told store.old.disk) store.old.index (D.faults store.old.disk) (D.weak_views store.old.disk) (C.moments clock.old))
+        (scene_of (site_of (D.told store.old.disk) store.old.index (D.faults store.old.disk)
+        (D.weak_views store.old.disk) (C.moments clock.old))
         (S.whole source.old) (S.taken source.old) (K.written sink.old) (K.faults sink.old))
-        (scene_of (site_of (D.told store.new.disk) store.new.index (D.faults store.new.disk) (D.weak_views store.new.disk) (C.moments clock.new))
+        (scene_of (site_of (D.told store.new.disk) store.new.index (D.faults store.new.disk)
+        (D.weak_views store.new.disk) (C.moments clock.new))
         (S.whole source.new) (S.taken source.new) (K.written sink.new) (K.faults sink.new)) result }
     ensures faults { D.faults store.old.disk ≤ D.faults store.new.disk }
-    ensures disk { result ≡ Status.Disk → Rose (D.faults store.old.disk) (D.faults store.new.disk) ⊎ Rose (D.weak_views store.old.disk) (D.weak_views store.new.disk) }
+    ensures disk { result ≡ Status.Disk → Rose (D.faults store.old.disk) (D.faults store.new.disk)
+        ⊎ Rose (D.weak_views store.old.disk) (D.weak_views store.new.disk) }
     ensures source { result ≡ Status.Source → Rose (S.faults source.old) (S.faults source.new) }
     ensures sink { result ≡ Status.Sink → Rose (K.faults sink.old) (K.faults sink.new) }
     ensures built { IsBuilt result }
