@@ -1,5 +1,10 @@
 -- What contracts see of a disk in memory.
-use Rattle.std.specs.Prelude.{ℕ}
+use Rattle.std.specs.Prelude.{◌≡◌, ◌≢◌, ℕ, Result, Ok, Err}
+use Rattle.std.specs.declared.option.Option.{Option}
+use Rattle.std.specs.declared.option.Option.TheVariants.{None, Some}
+use Rattle.bk_disk.specs.declared.failures.Failed.{Failed as Fault}
+use Rattle.bk_disk.specs.declared.failures.DiskError.{DiskError}
+use Rattle.bk_disk.specs.declared.failures.DiskError.TheVariants.{Failed as failed, Memory as memory}
 use Rattle.bk_disk.specs.Told.{Told}
 use Rattle.bk_memdisk.specs.Plans.{Planned}
 use Rattle.bk_memdisk.specs.declared.disks.MemDisk.{MemDisk}
@@ -16,3 +21,20 @@ views_of d = d.views
 
 abbrev pub faults_of : MemDisk → ℕ
 faults_of d = d.faults
+
+-- A call fails exactly where it was chosen, and is then done where its effect isn't 0. Want of
+-- memory leaves all as it was.
+abbrev pub Answers : {T : Type 0} → Option ℕ → Result T DiskError → Type 0 → Type 0 → Type 0
+Answers None (Ok v) done same = done
+Answers None (Err failed) done same = ⊥
+Answers None (Err memory) done same = same
+Answers (Some effect) (Ok v) done same = ⊥
+Answers (Some effect) (Err failed) done same = (effect ≡ 0 → same) × (effect ≢ 0 → done)
+Answers (Some effect) (Err memory) done same = same
+
+-- the same of a call that takes no memory
+abbrev pub Fails : {T : Type 0} → Option ℕ → Result T Fault → Type 0 → Type 0 → Type 0
+Fails None (Ok v) done same = done
+Fails None (Err e) done same = ⊥
+Fails (Some effect) (Ok v) done same = ⊥
+Fails (Some effect) (Err e) done same = (effect ≡ 0 → same) × (effect ≢ 0 → done)

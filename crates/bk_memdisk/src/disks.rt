@@ -1,5 +1,5 @@
 //! A disk in memory.
-ghost use Rattle.std.specs.Prelude.{◌≡◌, ◌≤◌, IsTrue, [], IfOk, OnOk, OnErr, option_copied};
+ghost use Rattle.std.specs.Prelude.{◌≡◌, ◌≤◌, ◌⊎◌, ◌↔◌, ℕ, min, true, false, IsTrue, IsSome, IfSome, is_some, is_ok, IsErr, IsErrOf, [], length, IfOk, OnOk, OnErr, option_copied};
 ghost use Rattle.bk_disk.specs.Causes.{Rose};
 ghost use Rattle.bk_disk.specs.Well.{is_well};
 
@@ -136,8 +136,15 @@ fn fault(faults: &mut u64) -> Failed
 
 #[tactic(auto, using(bk_disk::proofs::Still::still_appended, bk_disk::proofs::Still::still_synced, bk_disk::proofs::Still::still_cut, bk_disk::proofs::Still::still_made, bk_disk::proofs::Still::still_removed, bk_disk::proofs::Still::still_renamed, bk_disk::proofs::Still::still_returned, bk_disk::proofs::Still::still_viewed, bk_disk::proofs::Still::still_same))]
 impl Disk for MemDisk {
-    ghost use Rattle.std.specs.Prelude.{true, refl};
+    ghost use Rattle.std.specs.Prelude.{refl};
+    ghost use Rattle.bk_base.specs.declared.names.Name.{Name};
     ghost use Rattle.bk_memdisk.specs.Contents.{room_of};
+    ghost use Rattle.bk_memdisk.specs.Disk.{told_by, calls_of, views_of, faults_of, Answers, Fails};
+    ghost use Rattle.bk_memdisk.specs.Plans.{next_effect, one_later};
+    ghost use Rattle.bk_disk.specs.Names.{same};
+    ghost use Rattle.bk_disk.specs.Told.{bytes_of, listing, range_of, IsWithin, IsOurs, IsAbsent, IsOneThere, CutsWithin};
+    ghost use Rattle.bk_disk.specs.Calls.{Made, Appended, Cut, Synced, Removed, Renamed, viewed};
+    ghost use Rattle.bk_disk.specs.Causes.{IsCaused, HasCause, bumped};
     ghost use Rattle.bk_disk.proofs.Unique.{from_test};
 
     type View = MemView;
@@ -162,14 +169,35 @@ impl Disk for MemDisk {
 
     ghost outs_tell = { λ _. refl };
 
-    fn list(&mut self) -> Result<Vec<Listed>, DiskError> {
+    fn list(&mut self) -> Result<Vec<Listed>, DiskError>
+        ensures files { IfOk result (λ files. files.items ≡ listing (told_by self.old).image) }
+        ensures told { told_by self.new ≡ told_by self.old }
+        ensures rooms { (n : Name) → room_of self.old.directory n ≤ room_of self.new.directory n }
+        ensures cause { HasCause (faults_of self.old) (faults_of self.new) result }
+        ensures views { self.new.weak_views ≡ self.old.weak_views }
+        ensures failed { IsErrOf result DiskError.Failed ↔ IsSome (next_effect (calls_of self.old)) }
+        ensures counted { calls_of self.new ≡ one_later (calls_of self.old) }
+    {
         if self.calls.next().is_some() {
             return Err(fault(&mut self.faults).into());
         }
         Ok(self.directory.list()?)
     }
 
-    fn view(&mut self, name: Name, at: u64, len: u64) -> Result<MemView, DiskError> {
+    fn view(&mut self, name: Name, at: u64, len: u64) -> Result<MemView, DiskError>
+        ensures within { OnOk result (IsWithin name at len (told_by self.old).image) }
+        ensures bytes { IfOk result (λ view. view.left ≡ range_of name at len (told_by self.old).image) }
+        ensures rest { IfOk result (λ view. length view.left ≡ len) }
+        ensures told { told_by self.new ≡ viewed (is_ok result) name at len (told_by self.old) }
+        ensures rooms { (n : Name) → room_of self.old.directory n ≤ room_of self.new.directory n }
+        ensures cause { HasCause (faults_of self.old) (faults_of self.new) result }
+        ensures views { IfOk result (λ view. self.new.weak_views ≡ bumped view.weak self.old.weak_views) }
+        ensures no_view { OnErr result (self.new.weak_views ≡ self.old.weak_views) }
+        ensures weak { IfOk result (λ view. view.weak ≡ is_some (next_effect (views_of self.old))) }
+        ensures counted_views { OnOk result (views_of self.new ≡ one_later (views_of self.old)) }
+        ensures failed { IsErrOf result DiskError.Failed ↔ (IsSome (next_effect (calls_of self.old)) ⊎ ¬ (IsWithin name at len (told_by self.old).image)) }
+        ensures counted { calls_of self.new ≡ one_later (calls_of self.old) }
+    {
         let fails = self.calls.next().is_some();
         match self.directory.view(name, at, len, fails) {
             Ok(bytes) => {
@@ -184,7 +212,16 @@ impl Disk for MemDisk {
         }
     }
 
-    fn create(&mut self, name: Name) -> Result<(), DiskError> {
+    fn create(&mut self, name: Name) -> Result<(), DiskError>
+        requires { bytes_of name (told_by self.old).image ≡ [] }
+        ensures created { OnOk result (Made name false (told_by self.old) (told_by self.new)) }
+        ensures err { OnErr result ((told_by self.new ≡ told_by self.old) ⊎ Made name false (told_by self.old) (told_by self.new)) }
+        ensures rooms { (n : Name) → room_of self.old.directory n ≤ room_of self.new.directory n }
+        ensures cause { HasCause (faults_of self.old) (faults_of self.new) result }
+        ensures views { self.new.weak_views ≡ self.old.weak_views }
+        ensures answers { Answers (next_effect (calls_of self.old)) result (Made name false (told_by self.old) (told_by self.new)) (told_by self.new ≡ told_by self.old) }
+        ensures counted { calls_of self.new ≡ one_later (calls_of self.old) }
+    {
         match self.calls.next() {
             None => Ok(self.directory.create(name, false)?),
             Some(0) => Err(fault(&mut self.faults).into()),
@@ -201,7 +238,18 @@ impl Disk for MemDisk {
             .map_err(|_| Memory)
     }
 
-    fn append(&mut self, name: Name, piece: &[u8]) -> Result<(), Failed> {
+    fn append(&mut self, name: Name, piece: &[u8]) -> Result<(), Failed>
+        requires ours { IsOurs name (told_by self.old) }
+        requires room { length piece.now ≤ room_of self.old.directory name }
+        ensures appended { OnOk result (Appended name (length piece.now) piece.now (told_by self.old) (told_by self.new)) }
+        ensures err { OnErr result ((n : ℕ) × Appended name n piece.now (told_by self.old) (told_by self.new)) }
+        ensures rooms { (n : Name) → same n name ≡ false → room_of self.old.directory n ≤ room_of self.new.directory n }
+        ensures cause { IsCaused (faults_of self.old) (faults_of self.new) result }
+        ensures views { self.new.weak_views ≡ self.old.weak_views }
+        ensures failed { IsErr result ↔ IsSome (next_effect (calls_of self.old)) }
+        ensures through { IfSome (next_effect (calls_of self.old)) (λ effect. Appended name (min effect (length piece.now)) piece.now (told_by self.old) (told_by self.new)) }
+        ensures counted { calls_of self.new ≡ one_later (calls_of self.old) }
+    {
         match self.calls.next() {
             None => {
                 self.directory.append(name, piece, piece.len());
@@ -215,7 +263,17 @@ impl Disk for MemDisk {
         }
     }
 
-    fn cut(&mut self, name: Name, len: u64) -> Result<(), Failed> {
+    fn cut(&mut self, name: Name, len: u64) -> Result<(), Failed>
+        requires ours { IsOurs name (told_by self.old) }
+        requires within { CutsWithin name len (told_by self.old) }
+        ensures shorter { OnOk result (Cut name len (told_by self.old) (told_by self.new)) }
+        ensures err { OnErr result ((told_by self.new ≡ told_by self.old) ⊎ Cut name len (told_by self.old) (told_by self.new)) }
+        ensures rooms { (n : Name) → room_of self.old.directory n ≤ room_of self.new.directory n }
+        ensures cause { IsCaused (faults_of self.old) (faults_of self.new) result }
+        ensures views { self.new.weak_views ≡ self.old.weak_views }
+        ensures fails { Fails (next_effect (calls_of self.old)) result (Cut name len (told_by self.old) (told_by self.new)) (told_by self.new ≡ told_by self.old) }
+        ensures counted { calls_of self.new ≡ one_later (calls_of self.old) }
+    {
         match self.calls.next() {
             None => {
                 self.directory.cut(name, len as usize);
@@ -229,7 +287,16 @@ impl Disk for MemDisk {
         }
     }
 
-    fn sync(&mut self, name: Name) -> Result<(), Failed> {
+    fn sync(&mut self, name: Name) -> Result<(), Failed>
+        requires { IsOurs name (told_by self.old) }
+        ensures synced { OnOk result (Synced name (told_by self.old) (told_by self.new)) }
+        ensures err { OnErr result (told_by self.new ≡ told_by self.old) }
+        ensures rooms { (n : Name) → room_of self.old.directory n ≤ room_of self.new.directory n }
+        ensures cause { IsCaused (faults_of self.old) (faults_of self.new) result }
+        ensures views { self.new.weak_views ≡ self.old.weak_views }
+        ensures failed { IsErr result ↔ IsSome (next_effect (calls_of self.old)) }
+        ensures counted { calls_of self.new ≡ one_later (calls_of self.old) }
+    {
         if self.calls.next().is_some() {
             return Err(fault(&mut self.faults));
         }
@@ -237,7 +304,17 @@ impl Disk for MemDisk {
         Ok(())
     }
 
-    fn lend(&mut self, name: Name) -> Result<MemOut, DiskError> {
+    fn lend(&mut self, name: Name) -> Result<MemOut, DiskError>
+        requires { IsAbsent name (told_by self.old).image }
+        ensures lent { OnOk result (Made name true (told_by self.old) (told_by self.new)) }
+        ensures out { IfOk result (λ out. out ≡ record { name = name; bytes = []; synced = 0 }) }
+        ensures err { OnErr result ((told_by self.new ≡ told_by self.old) ⊎ Made name true (told_by self.old) (told_by self.new)) }
+        ensures rooms { (n : Name) → room_of self.old.directory n ≤ room_of self.new.directory n }
+        ensures cause { HasCause (faults_of self.old) (faults_of self.new) result }
+        ensures views { self.new.weak_views ≡ self.old.weak_views }
+        ensures answers { Answers (next_effect (calls_of self.old)) result (Made name true (told_by self.old) (told_by self.new)) (told_by self.new ≡ told_by self.old) }
+        ensures counted { calls_of self.new ≡ one_later (calls_of self.old) }
+    {
         match self.calls.next() {
             None => {
                 self.directory.create(name, true)?;
@@ -256,7 +333,16 @@ impl Disk for MemDisk {
         self.directory.adopt(name, bytes, copy);
     }
 
-    fn rename(&mut self, from: Name, to: Name) -> Result<(), DiskError> {
+    fn rename(&mut self, from: Name, to: Name) -> Result<(), DiskError>
+        requires { IsOneThere from to (told_by self.old).image }
+        ensures renamed { OnOk result (Renamed from to (told_by self.old) (told_by self.new)) }
+        ensures err { OnErr result ((told_by self.new ≡ told_by self.old) ⊎ Renamed from to (told_by self.old) (told_by self.new)) }
+        ensures rooms { (n : Name) → same n from ≡ false → same n to ≡ false → room_of self.old.directory n ≤ room_of self.new.directory n }
+        ensures cause { HasCause (faults_of self.old) (faults_of self.new) result }
+        ensures views { self.new.weak_views ≡ self.old.weak_views }
+        ensures answers { Answers (next_effect (calls_of self.old)) result (Renamed from to (told_by self.old) (told_by self.new)) (told_by self.new ≡ told_by self.old) }
+        ensures counted { calls_of self.new ≡ one_later (calls_of self.old) }
+    {
         match self.calls.next() {
             None => Ok(self.directory.rename(from, to)?),
             Some(0) => Err(fault(&mut self.faults).into()),
@@ -267,7 +353,15 @@ impl Disk for MemDisk {
         }
     }
 
-    fn remove(&mut self, name: Name) -> Result<(), DiskError> {
+    fn remove(&mut self, name: Name) -> Result<(), DiskError>
+        ensures removed { OnOk result (Removed name (told_by self.old) (told_by self.new)) }
+        ensures err { OnErr result ((told_by self.new ≡ told_by self.old) ⊎ Removed name (told_by self.old) (told_by self.new)) }
+        ensures rooms { (n : Name) → same n name ≡ false → room_of self.old.directory n ≤ room_of self.new.directory n }
+        ensures cause { HasCause (faults_of self.old) (faults_of self.new) result }
+        ensures views { self.new.weak_views ≡ self.old.weak_views }
+        ensures answers { Answers (next_effect (calls_of self.old)) result (Removed name (told_by self.old) (told_by self.new)) (told_by self.new ≡ told_by self.old) }
+        ensures counted { calls_of self.new ≡ one_later (calls_of self.old) }
+    {
         match self.calls.next() {
             None => Ok(self.directory.remove(name)?),
             Some(0) => Err(fault(&mut self.faults).into()),
