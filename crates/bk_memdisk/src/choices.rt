@@ -23,7 +23,8 @@ pub(crate) fn left(
 ) -> Result<Vec<u8>, AllocError>
     requires { safe ≤ length bytes.now }
     ensures octets { IfOk result (λ left. AreOctets left.items) }
-    ensures left { IfOk result (λ left. left.items ≡ left_of choice.now.keep choice.now.flips.items safe bytes.now) }
+    ensures left { IfOk result (λ left. left.items ≡ left_of choice.now.keep choice.now.flips.items safe
+        bytes.now) }
 {
     let part = kept(&bytes[safe..], choice.keep);
     let mut left = bytes[..safe].to_vec(alloc)?;

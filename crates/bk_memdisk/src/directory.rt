@@ -72,7 +72,8 @@ impl Directory {
     // What a stop leaves by the choice, synced whole and with no name lent.
     pub(crate) fn crash(&self, choice: &Choice) -> Result<Directory, AllocError>
         requires { IsOnce (names self.now.told.image) }
-        ensures image { IfOk result (λ after. after.told.image ≡ crashed choice.now.keep choice.now.flips.items self.now.told.fronts self.now.told.image) }
+        ensures image { IfOk result (λ after. after.told.image ≡ crashed choice.now.keep choice.now.flips.items
+            self.now.told.fronts self.now.told.image) }
         ensures may_leave { IfOk result (λ after. MayLeave self.now.told.fronts after.told.image) }
         ensures synced { IfOk result (λ after. IsSynced after.told) }
     {
@@ -175,7 +176,8 @@ impl Directory {
         requires { IsOneThere from to self.old.told.image }
         ensures ok { OnOk result (Renamed from to self.old.told self.new.told) }
         ensures err { OnErr result (self.new ≡ self.old) }
-        ensures rooms { (n : Name) → same n from ≡ false → same n to ≡ false → room_of self.old n ≤ room_of self.new n }
+        ensures rooms { (n : Name) → same n from ≡ false → same n to ≡ false → room_of self.old n
+            ≤ room_of self.new n }
     {
         let Some(index) = find(&self.files, from) else {
             return Ok(());
@@ -214,7 +216,8 @@ impl Directory {
         ensures bytes { IfOk result (λ bytes. bytes.items ≡ range_of name at len self.old.told.image) }
         ensures told { self.new.told ≡ viewed (is_ok result) name at len self.old.told }
         ensures rooms { self.new.rooms ≡ self.old.rooms }
-        ensures failed { IsErrOf result DiskError.Failed ↔ (IsTrue fails ⊎ ¬ (IsWithin name at len self.old.told.image)) }
+        ensures failed { IsErrOf result DiskError.Failed ↔ (IsTrue fails
+            ⊎ ¬ (IsWithin name at len self.old.told.image)) }
     {
         let Some(range) = self.range(name, at, len) else {
             self.astray = self.astray.saturating_add(1);
@@ -283,7 +286,8 @@ impl Directory {
 }
 
 fn list_of(alloc: Global, files: &[MemFile]) -> Result<Vec<Listed>, AllocError>
-    ensures { IfOk result (λ listed. listed.items ≡ map (λ file. record { name = file.name; len = length file.bytes.items }) files.now) }
+    ensures { IfOk result (λ listed. listed.items ≡ map (λ file. record
+        { name = file.name; len = length file.bytes.items }) files.now) }
 {
     files
         .iter()

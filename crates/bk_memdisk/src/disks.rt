@@ -71,10 +71,13 @@ impl MemDisk {
     /// The disk that a stop leaves by this choice: of each file its synced bytes, and of the bytes
     /// past them what the choice says. All of it is synced, no name is lent, nothing is set to fail.
     pub fn crash(self, choice: &Choice) -> Result<MemDisk, Memory>
-        ensures image { IfOk result (λ after. (told_by after).image ≡ crashed choice.now.keep choice.now.flips.items (told_by self).fronts (told_by self).image) }
+        ensures image { IfOk result (λ after. (told_by after).image
+            ≡ crashed choice.now.keep choice.now.flips.items (told_by self).fronts
+            (told_by self).image) }
         ensures allowed { IfOk result (λ after. MayLeaveNow (told_by self) (told_by after).image) }
         ensures synced { IfOk result (λ after. IsSynced (told_by after)) }
-        ensures nothing_fails { IfOk result (λ after. (calls_of after ≡ nothing_chosen) × (views_of after ≡ nothing_chosen)) }
+        ensures nothing_fails { IfOk result (λ after. (calls_of after ≡ nothing_chosen)
+            × (views_of after ≡ nothing_chosen)) }
     {
         let Ok(directory) = self.directory.crash(choice) else {
             return Err(Memory);
@@ -195,7 +198,8 @@ impl Disk for MemDisk {
         ensures no_view { OnErr result (self.new.weak_views ≡ self.old.weak_views) }
         ensures weak { IfOk result (λ view. view.weak ≡ is_some (next_effect (views_of self.old))) }
         ensures counted_views { OnOk result (views_of self.new ≡ one_later (views_of self.old)) }
-        ensures failed { IsErrOf result DiskError.Failed ↔ (IsSome (next_effect (calls_of self.old)) ⊎ ¬ (IsWithin name at len (told_by self.old).image)) }
+        ensures failed { IsErrOf result DiskError.Failed ↔ (IsSome (next_effect (calls_of self.old))
+            ⊎ ¬ (IsWithin name at len (told_by self.old).image)) }
         ensures counted { calls_of self.new ≡ one_later (calls_of self.old) }
     {
         let fails = self.calls.next().is_some();
@@ -215,11 +219,14 @@ impl Disk for MemDisk {
     fn create(&mut self, name: Name) -> Result<(), DiskError>
         requires { bytes_of name (told_by self.old).image ≡ [] }
         ensures created { OnOk result (Made name false (told_by self.old) (told_by self.new)) }
-        ensures err { OnErr result ((told_by self.new ≡ told_by self.old) ⊎ Made name false (told_by self.old) (told_by self.new)) }
+        ensures err { OnErr result ((told_by self.new ≡ told_by self.old)
+            ⊎ Made name false (told_by self.old) (told_by self.new)) }
         ensures rooms { (n : Name) → room_of self.old.directory n ≤ room_of self.new.directory n }
         ensures cause { HasCause (faults_of self.old) (faults_of self.new) result }
         ensures views { self.new.weak_views ≡ self.old.weak_views }
-        ensures answers { Answers (next_effect (calls_of self.old)) result (Made name false (told_by self.old) (told_by self.new)) (told_by self.new ≡ told_by self.old) }
+        ensures answers { Answers (next_effect (calls_of self.old)) result
+            (Made name false (told_by self.old) (told_by self.new))
+            (told_by self.new ≡ told_by self.old) }
         ensures counted { calls_of self.new ≡ one_later (calls_of self.old) }
     {
         match self.calls.next() {
@@ -241,13 +248,17 @@ impl Disk for MemDisk {
     fn append(&mut self, name: Name, piece: &[u8]) -> Result<(), Failed>
         requires ours { IsOurs name (told_by self.old) }
         requires room { length piece.now ≤ room_of self.old.directory name }
-        ensures appended { OnOk result (Appended name (length piece.now) piece.now (told_by self.old) (told_by self.new)) }
+        ensures appended { OnOk result (Appended name (length piece.now) piece.now (told_by self.old)
+            (told_by self.new)) }
         ensures err { OnErr result ((n : ℕ) × Appended name n piece.now (told_by self.old) (told_by self.new)) }
-        ensures rooms { (n : Name) → same n name ≡ false → room_of self.old.directory n ≤ room_of self.new.directory n }
+        ensures rooms { (n : Name) → same n name ≡ false → room_of self.old.directory n
+            ≤ room_of self.new.directory n }
         ensures cause { IsCaused (faults_of self.old) (faults_of self.new) result }
         ensures views { self.new.weak_views ≡ self.old.weak_views }
         ensures failed { IsErr result ↔ IsSome (next_effect (calls_of self.old)) }
-        ensures through { IfSome (next_effect (calls_of self.old)) (λ effect. Appended name (min effect (length piece.now)) piece.now (told_by self.old) (told_by self.new)) }
+        ensures through { IfSome (next_effect (calls_of self.old))
+            (λ effect. Appended name (min effect (length piece.now)) piece.now
+            (told_by self.old) (told_by self.new)) }
         ensures counted { calls_of self.new ≡ one_later (calls_of self.old) }
     {
         match self.calls.next() {
@@ -267,11 +278,14 @@ impl Disk for MemDisk {
         requires ours { IsOurs name (told_by self.old) }
         requires within { CutsWithin name len (told_by self.old) }
         ensures shorter { OnOk result (Cut name len (told_by self.old) (told_by self.new)) }
-        ensures err { OnErr result ((told_by self.new ≡ told_by self.old) ⊎ Cut name len (told_by self.old) (told_by self.new)) }
+        ensures err { OnErr result ((told_by self.new ≡ told_by self.old)
+            ⊎ Cut name len (told_by self.old) (told_by self.new)) }
         ensures rooms { (n : Name) → room_of self.old.directory n ≤ room_of self.new.directory n }
         ensures cause { IsCaused (faults_of self.old) (faults_of self.new) result }
         ensures views { self.new.weak_views ≡ self.old.weak_views }
-        ensures fails { Fails (next_effect (calls_of self.old)) result (Cut name len (told_by self.old) (told_by self.new)) (told_by self.new ≡ told_by self.old) }
+        ensures fails { Fails (next_effect (calls_of self.old)) result
+            (Cut name len (told_by self.old) (told_by self.new))
+            (told_by self.new ≡ told_by self.old) }
         ensures counted { calls_of self.new ≡ one_later (calls_of self.old) }
     {
         match self.calls.next() {
@@ -308,11 +322,14 @@ impl Disk for MemDisk {
         requires { IsAbsent name (told_by self.old).image }
         ensures lent { OnOk result (Made name true (told_by self.old) (told_by self.new)) }
         ensures out { IfOk result (λ out. out ≡ record { name = name; bytes = []; synced = 0 }) }
-        ensures err { OnErr result ((told_by self.new ≡ told_by self.old) ⊎ Made name true (told_by self.old) (told_by self.new)) }
+        ensures err { OnErr result ((told_by self.new ≡ told_by self.old)
+            ⊎ Made name true (told_by self.old) (told_by self.new)) }
         ensures rooms { (n : Name) → room_of self.old.directory n ≤ room_of self.new.directory n }
         ensures cause { HasCause (faults_of self.old) (faults_of self.new) result }
         ensures views { self.new.weak_views ≡ self.old.weak_views }
-        ensures answers { Answers (next_effect (calls_of self.old)) result (Made name true (told_by self.old) (told_by self.new)) (told_by self.new ≡ told_by self.old) }
+        ensures answers { Answers (next_effect (calls_of self.old)) result
+            (Made name true (told_by self.old) (told_by self.new))
+            (told_by self.new ≡ told_by self.old) }
         ensures counted { calls_of self.new ≡ one_later (calls_of self.old) }
     {
         match self.calls.next() {
@@ -336,11 +353,15 @@ impl Disk for MemDisk {
     fn rename(&mut self, from: Name, to: Name) -> Result<(), DiskError>
         requires { IsOneThere from to (told_by self.old).image }
         ensures renamed { OnOk result (Renamed from to (told_by self.old) (told_by self.new)) }
-        ensures err { OnErr result ((told_by self.new ≡ told_by self.old) ⊎ Renamed from to (told_by self.old) (told_by self.new)) }
-        ensures rooms { (n : Name) → same n from ≡ false → same n to ≡ false → room_of self.old.directory n ≤ room_of self.new.directory n }
+        ensures err { OnErr result ((told_by self.new ≡ told_by self.old)
+            ⊎ Renamed from to (told_by self.old) (told_by self.new)) }
+        ensures rooms { (n : Name) → same n from ≡ false → same n to ≡ false → room_of self.old.directory n
+            ≤ room_of self.new.directory n }
         ensures cause { HasCause (faults_of self.old) (faults_of self.new) result }
         ensures views { self.new.weak_views ≡ self.old.weak_views }
-        ensures answers { Answers (next_effect (calls_of self.old)) result (Renamed from to (told_by self.old) (told_by self.new)) (told_by self.new ≡ told_by self.old) }
+        ensures answers { Answers (next_effect (calls_of self.old)) result
+            (Renamed from to (told_by self.old) (told_by self.new))
+            (told_by self.new ≡ told_by self.old) }
         ensures counted { calls_of self.new ≡ one_later (calls_of self.old) }
     {
         match self.calls.next() {
@@ -355,11 +376,15 @@ impl Disk for MemDisk {
 
     fn remove(&mut self, name: Name) -> Result<(), DiskError>
         ensures removed { OnOk result (Removed name (told_by self.old) (told_by self.new)) }
-        ensures err { OnErr result ((told_by self.new ≡ told_by self.old) ⊎ Removed name (told_by self.old) (told_by self.new)) }
-        ensures rooms { (n : Name) → same n name ≡ false → room_of self.old.directory n ≤ room_of self.new.directory n }
+        ensures err { OnErr result ((told_by self.new ≡ told_by self.old)
+            ⊎ Removed name (told_by self.old) (told_by self.new)) }
+        ensures rooms { (n : Name) → same n name ≡ false → room_of self.old.directory n
+            ≤ room_of self.new.directory n }
         ensures cause { HasCause (faults_of self.old) (faults_of self.new) result }
         ensures views { self.new.weak_views ≡ self.old.weak_views }
-        ensures answers { Answers (next_effect (calls_of self.old)) result (Removed name (told_by self.old) (told_by self.new)) (told_by self.new ≡ told_by self.old) }
+        ensures answers { Answers (next_effect (calls_of self.old)) result
+            (Removed name (told_by self.old) (told_by self.new))
+            (told_by self.new ≡ told_by self.old) }
         ensures counted { calls_of self.new ≡ one_later (calls_of self.old) }
     {
         match self.calls.next() {

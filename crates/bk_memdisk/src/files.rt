@@ -100,8 +100,10 @@ impl MemFile {
         requires through { through ≤ length piece.now }
         ensures name { self.new.name ≡ self.old.name }
         ensures bytes { self.new.bytes.items ≡ self.old.bytes.items ++ take through piece.now }
-        ensures fits { (k : Kept) → Fits self.old k → Fits self.new (handed (length self.old.bytes.items) through piece.now k) }
-        ensures change { (t : Table Kept) → after t result ≡ changed self.old.name (handed (length self.old.bytes.items) through piece.now) t }
+        ensures fits { (k : Kept) → Fits self.old k → Fits self.new
+            (handed (length self.old.bytes.items) through piece.now k) }
+        ensures change { (t : Table Kept) → after t result ≡ changed self.old.name
+            (handed (length self.old.bytes.items) through piece.now) t }
         ensures owed { 0 < self.old.room → owed self.new + 1 ≤ owed self.old }
     {
         let at = self.bytes.len();
@@ -143,7 +145,8 @@ impl MemFile {
         ensures name { self.new.name ≡ self.old.name }
         ensures bytes { self.new.bytes.items ≡ self.old.bytes.items }
         ensures fits { (k : Kept) → Fits self.old k → Fits self.new (synced (length self.old.bytes.items) k) }
-        ensures change { (t : Table Kept) → after t result ≡ changed self.old.name (synced (length self.old.bytes.items)) t }
+        ensures change { (t : Table Kept) → after t result ≡ changed self.old.name
+            (synced (length self.old.bytes.items)) t }
         ensures room { self.new.room ≡ self.old.room }
         ensures owed { self.old.dirty ≡ true → owed self.new + 1 ≡ owed self.old }
     {

@@ -33,7 +33,12 @@ impl MemSink {
     /// An empty sink that has taken its room. The write numbered `fail`, counted from 1, fails, and
     /// so does each once the room is used up.
     pub fn new(alloc: Global, room: usize, fail: Option<u64>) -> Result<MemSink, Memory>
-        ensures { IfOk result (λ sink. sink ≡ record { written = []; room = room; faults = 0; due = fail }) }
+        ensures { IfOk result (λ sink. sink ≡ record {
+          written = [];
+          room = room;
+          faults = 0;
+          due = fail;
+        }) }
     {
         match Vec::with_capacity(alloc, room) {
             Ok(bytes) => Ok(MemSink {

@@ -61,7 +61,8 @@ impl Source for MemSource {
 
     fn read(&mut self, into: &mut [u8]) -> Result<usize, Failed>
         ensures failed { IsErr result ↔ IsDue self.old.due }
-        ensures count { IfOk result (λ n. n ≡ min (min (length into.new) self.old.most) (length self.old.whole - self.old.taken)) }
+        ensures count { IfOk result (λ n. n ≡ min (min (length into.new) self.old.most)
+            (length self.old.whole - self.old.taken)) }
         ensures took { IfOk result (λ n. Takes self.old.whole self.old.taken self.new.taken n into.new) }
         ensures kept { OnErr result (self.new.taken ≡ self.old.taken) }
         ensures input { SameInput self.old self.new }
