@@ -1,20 +1,17 @@
 -- What the last state of the table says to a pass that has all the weight.
-use Rattle.std.proofs.Common.{◌≡◌, ◌==◌, ◌≢◌, ℕ, zero, suc, ◌+◌, ◌-◌, ◌<◌, ◌≤◌, Bool, true, false, ◌||◌, List, [], ◌∷◌, ◌++◌, length, set, get_or, Option, Some, None, slice_get, refl, ap, sym, ◌∙◌, subst, arith, length-append, length-set, ◌⊎◌, inl, inr, ⊎_elim}
-use mathlib.Core.List.{IsPrefix}
+use Rattle.std.proofs.Common.{◌≡◌, ◌≢◌, ℕ, Bool, true, false, List, Option, Some, None, refl, ap, sym, ◌∙◌, subst, arith}
 use mathlib.Core.Option.{some, none, some-injective, some-ne-none}
 use mathlib.Core.Option as maybe
 use mathlib.Core.Logic.{dite}
-use native.Mathlib.Decide.{ℕ_discrete, dec_le}
+use native.Mathlib.Decide.{ℕ_discrete}
 use lib.ListN.{get_elem?}
-use Rattle.atomic_table.specs.Table.{State, step, takes, gives, keeps, rest, put_back, Allows, Splits, Joins, Final, Seen, opening}
+use Rattle.atomic_table.specs.Table.{Final, Seen}
 use Rattle.bk_base.specs.declared.histories.Opening.{Opening}
 use Rattle.bk_base.specs.declared.histories.Step.{Step}
-use Rattle.bk_turn.specs.declared.views.View.{View}
 use Rattle.bk_turn.specs.declared.seats.Seated.{Seated}
 use Rattle.bk_turn.specs.declared.seats.Stage.{Stage}
 use Rattle.bk_turn.specs.declared.seats.Stage.TheVariants.{Fresh, Filling, Idle, Waiting, Holding, Gone}
-use Rattle.bk_turn.specs.History.{own, own_of, number_at, IsApart, longer}
-use Rattle.bk_turn.specs.Seats.{is_live, is_busy, busy, total}
+use Rattle.bk_turn.specs.Seats.{is_live, is_busy, busy}
 use Rattle.bk_turn.specs.Rule.{WeightsAreWhole, Orderly}
 use Rattle.bk_turn.proofs.Totals.{total-two, total-zero, at_once}
 

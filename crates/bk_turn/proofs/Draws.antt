@@ -1,25 +1,21 @@
 -- The exchange that draws a ticket keeps the rule.
-use Rattle.std.proofs.Common.{◌≡◌, ◌==◌, eqb, ◌≢◌, ℕ, zero, suc, ◌+◌, ◌-◌, ◌<◌, ◌≤◌, Bool, true, false, List, [], ◌∷◌, ◌++◌, length, set, slice_index, get_or, Option, Some, None, slice_get, refl, ap, sym, ◌∙◌, subst, arith, ◌⊎◌, inl, inr, ⊎_elim, length-set}
-use mathlib.Core.List.{IsPrefix}
+use Rattle.std.proofs.Common.{◌≡◌, eqb, ◌≢◌, ℕ, ◌+◌, ◌<◌, ◌≤◌, Bool, true, false, List, [], ◌∷◌, set, slice_index, get_or, Option, refl, ap, sym, ◌∙◌, subst, arith}
 use mathlib.Core.Option.{some, none}
-use mathlib.Core.Option as maybe
 use mathlib.Core.Logic.{dite}
 use native.Mathlib.Decide.{ℕ_discrete}
 use lib.ListN.{get_elem?}
 use prog.Atomic.{either}
-use Rattle.atomic_table.specs.Table.{State, Me, step, keeps, Allows, stepped, carried_after, Valid, Act}
-use Rattle.atomic_table.proofs.Lists.{set_again, exchanged}
+use Rattle.atomic_table.specs.Table.{State, step, keeps, Allows}
+use Rattle.atomic_table.proofs.Lists.{exchanged}
 use Rattle.bk_base.specs.declared.histories.Opening.{Opening}
 use Rattle.bk_base.specs.declared.histories.Step.{Step}
-use Rattle.bk_turn.specs.declared.views.View.{View}
 use Rattle.bk_turn.specs.declared.seats.Seated.{Seated}
-use Rattle.bk_turn.specs.declared.seats.Stage.{Stage}
-use Rattle.bk_turn.specs.declared.seats.Stage.TheVariants.{Fresh, Filling, Idle, Waiting, Holding, Gone}
-use Rattle.bk_turn.specs.Seats.{is_live, is_new, has_slot, has_ticket, is_busy, one_if, tickets, busy, IsNoted, total}
-use Rattle.bk_turn.specs.Rule.{TicketsInOrder, SeenFromTheFront, SlotHasItsPlace, ValueStandsForTheLongest, NumbersAreApart, WeightsAreWhole, Orderly}
-use Rattle.bk_turn.specs.Steps.{Sat, with_stage, found_full, Drawn, drawn}
+use Rattle.bk_turn.specs.declared.seats.Stage.TheVariants.{Idle, Waiting}
+use Rattle.bk_turn.specs.Seats.{is_live, has_ticket, is_busy}
+use Rattle.bk_turn.specs.Rule.{TicketsInOrder, Orderly}
+use Rattle.bk_turn.specs.Steps.{Sat, with_stage, found_full, drawn}
 use Rattle.bk_turn.proofs.Beginnings.{prefix_self}
-use Rattle.bk_turn.proofs.Totals.{total-set, one_if_same, one_if_not, each_set, new_busy, slot_busy, one_place}
+use Rattle.bk_turn.proofs.Totals.{total-set, one_if_same, one_if_not, each_set}
 use Rattle.bk_turn.proofs.Moves.{Goes, nothing_changes, tickets_kept, slot_stays, value_stays, known_kept, seen_moved, numbers_moved, weights_moved}
 
 -- the ticket t goes to a seat that had none

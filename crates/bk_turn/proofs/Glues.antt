@@ -1,23 +1,21 @@
 -- Making two seats one keeps the rule, and what the load after it tells.
-use Rattle.std.proofs.Common.{◌≡◌, ◌==◌, ◌≢◌, ℕ, zero, suc, ◌+◌, ◌-◌, ◌<◌, ◌≤◌, Bool, true, false, ◌||◌, List, [], ◌∷◌, ◌++◌, length, set, get_or, Option, Some, None, slice_get, refl, ap, sym, ◌∙◌, subst, arith, length-append, length-set, ◌⊎◌, inl, inr, ⊎_elim}
+use Rattle.std.proofs.Common.{◌≡◌, ◌≢◌, ℕ, ◌+◌, ◌-◌, ◌≤◌, Bool, true, false, ◌||◌, List, [], ◌∷◌, ◌++◌, length, set, get_or, Option, Some, None, refl, ap, sym, ◌∙◌, arith, length-append}
 use mathlib.Core.List.{IsPrefix}
 use mathlib.Core.Option.{some, none, some-injective, some-ne-none}
 use mathlib.Core.Option as maybe
 use mathlib.Core.Logic.{dite}
-use native.Mathlib.Decide.{ℕ_discrete, dec_le}
+use native.Mathlib.Decide.{ℕ_discrete}
 use lib.ListN.{get_elem?}
-use Rattle.atomic_table.specs.Table.{State, step, takes, gives, keeps, rest, put_back, Allows, Splits, Joins, Final, Seen, opening}
+use Rattle.atomic_table.specs.Table.{step, Allows, Joins}
 use Rattle.bk_base.specs.declared.histories.Opening.{Opening}
 use Rattle.bk_base.specs.declared.histories.Step.{Step}
-use Rattle.bk_turn.specs.declared.views.View.{View}
 use Rattle.bk_turn.specs.declared.seats.Seated.{Seated}
-use Rattle.bk_turn.specs.declared.seats.Stage.{Stage}
-use Rattle.bk_turn.specs.declared.seats.Stage.TheVariants.{Fresh, Filling, Idle, Waiting, Holding, Gone}
-use Rattle.bk_turn.specs.History.{own, own_of, number_at, IsApart, longer}
-use Rattle.bk_turn.specs.Seats.{is_live, is_new, has_slot, has_ticket, is_number, is_busy, busy, tickets, numbers, weights, total, seated, spent, joined, Each, EachLive, IsNoted}
+use Rattle.bk_turn.specs.declared.seats.Stage.TheVariants.{Fresh, Idle, Holding}
+use Rattle.bk_turn.specs.History.{own, own_of, IsApart, longer}
+use Rattle.bk_turn.specs.Seats.{is_live, is_new, has_slot, has_ticket, is_number, is_busy, tickets, numbers, total, spent, joined, Each, EachLive, IsNoted}
 use Rattle.bk_turn.specs.Rule.{TicketsInOrder, SeenFromTheFront, SlotHasItsPlace, ValueStandsForTheLongest, IsNumber, NumbersAreApart, WeightsAreWhole, Orderly}
 use Rattle.bk_turn.specs.Steps.{Sat, compared}
-use Rattle.bk_turn.proofs.Beginnings.{prefix_self, prefix_get, prefix_whole, prefix_length, longer_prefix, own-append}
+use Rattle.bk_turn.proofs.Beginnings.{prefix_get, prefix_whole, prefix_length, longer_prefix, own-append}
 use Rattle.bk_turn.proofs.Totals.{total-set, total-two, set_at, at_once, one_if_same, each_set, each_live_set, one_place}
 use Rattle.bk_turn.proofs.Moves.{IsKnown, nothing_changes}
 use Rattle.atomic_table.proofs.Lists.{set_else}

@@ -1,21 +1,18 @@
 -- The parts of the rule after one seat has changed from v to w, where the other parts of its view and the other seats stay.
-use Rattle.std.proofs.Common.{◌≡◌, ◌==◌, ◌≢◌, ℕ, zero, suc, ◌+◌, ◌-◌, ◌<◌, ◌≤◌, Bool, true, false, List, [], ◌∷◌, ◌++◌, length, set, Option, Some, None, slice_get, refl, ap, sym, ◌∙◌, subst, arith, ◌⊎◌, inl, inr, ⊎_elim}
+use Rattle.std.proofs.Common.{◌≡◌, ℕ, ◌+◌, ◌≤◌, true, false, List, [], ◌∷◌, length, set, Option, Some, None, ap, sym, ◌∙◌, subst, arith}
 use mathlib.Core.List.{IsPrefix}
 use mathlib.Core.Option.{some, none}
 use mathlib.Core.Option as maybe
 use mathlib.Core.Logic.{dite}
 use native.Mathlib.Decide.{ℕ_discrete}
 use lib.ListN.{get_elem?}
-use Rattle.atomic_table.specs.Table.{State, Me, keeps, stepped, carried_after, Valid, Act}
+use Rattle.atomic_table.specs.Table.{State, keeps, stepped, carried_after, Valid, Act}
 use Rattle.atomic_table.proofs.Lists.{set_else, set_again}
 use Rattle.bk_base.specs.declared.histories.Opening.{Opening}
 use Rattle.bk_base.specs.declared.histories.Step.{Step}
-use Rattle.bk_turn.specs.declared.views.View.{View}
 use Rattle.bk_turn.specs.declared.seats.Seated.{Seated}
-use Rattle.bk_turn.specs.declared.seats.Stage.{Stage}
-use Rattle.bk_turn.specs.declared.seats.Stage.TheVariants.{Fresh, Filling, Idle, Waiting, Holding, Gone}
-use Rattle.bk_turn.specs.History.{own}
-use Rattle.bk_turn.specs.Seats.{is_live, is_new, has_slot, has_ticket, is_number, is_busy, tickets, numbers, weights, busy, Each, EachLive, IsNoted, total}
+use Rattle.bk_turn.specs.declared.seats.Stage.TheVariants.{Fresh, Holding}
+use Rattle.bk_turn.specs.Seats.{is_live, is_new, has_slot, has_ticket, is_number, is_busy, IsNoted}
 use Rattle.bk_turn.specs.Rule.{TicketsInOrder, SeenFromTheFront, SlotHasItsPlace, ValueStandsForTheLongest, IsNumber, NumbersAreApart, WeightsAreWhole, Orderly}
 use Rattle.bk_turn.specs.Steps.{Sat}
 use Rattle.bk_turn.proofs.Beginnings.{prefix_trans}

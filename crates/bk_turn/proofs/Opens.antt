@@ -1,23 +1,19 @@
 -- The table as it is made, and the two loads by which the first seat fills the slot, keep the rule.
-use Rattle.std.proofs.Common.{◌≡◌, ◌==◌, ◌≢◌, ℕ, zero, suc, ◌+◌, ◌-◌, ◌<◌, ◌≤◌, Bool, true, false, ◌||◌, List, [], ◌∷◌, ◌++◌, length, set, get_or, Option, Some, None, slice_get, refl, ap, sym, ◌∙◌, subst, arith, length-append, length-set, ◌⊎◌, inl, inr, ⊎_elim}
+use Rattle.std.proofs.Common.{◌≡◌, ℕ, ◌+◌, ◌<◌, ◌≤◌, true, false, List, [], ◌∷◌, length, set, get_or, Option, Some, None, refl, ap, sym, ◌∙◌, subst, arith, length-set}
 use mathlib.Core.List.{IsPrefix}
 use mathlib.Core.Option.{some, none, some-injective, some-ne-none}
 use mathlib.Core.Option as maybe
-use mathlib.Core.Logic.{dite}
-use native.Mathlib.Decide.{ℕ_discrete, dec_le}
 use lib.ListN.{get_elem?}
-use Rattle.atomic_table.specs.Table.{State, step, takes, gives, keeps, rest, put_back, Allows, Splits, Joins, Final, Seen, opening}
+use Rattle.atomic_table.specs.Table.{State, step, takes, gives, rest, put_back, Allows, opening}
 use Rattle.bk_base.specs.declared.histories.Opening.{Opening}
 use Rattle.bk_base.specs.declared.histories.Step.{Step}
 use Rattle.bk_turn.specs.declared.views.View.{View}
 use Rattle.bk_turn.specs.declared.seats.Seated.{Seated}
-use Rattle.bk_turn.specs.declared.seats.Stage.{Stage}
-use Rattle.bk_turn.specs.declared.seats.Stage.TheVariants.{Fresh, Filling, Idle, Waiting, Holding, Gone}
-use Rattle.bk_turn.specs.History.{own, own_of, number_at, IsApart, longer}
-use Rattle.bk_turn.specs.Seats.{is_live, is_new, has_slot, has_ticket, is_number, is_busy, busy, tickets, seated, fresh, Each, EachLive, IsNoted}
-use Rattle.bk_turn.specs.Rule.{TicketsInOrder, SeenFromTheFront, SlotHasItsPlace, ValueStandsForTheLongest, NumbersAreApart, WeightsAreWhole, Orderly}
+use Rattle.bk_turn.specs.declared.seats.Stage.TheVariants.{Fresh, Filling, Idle, Holding}
+use Rattle.bk_turn.specs.Seats.{is_live, is_new, has_slot, has_ticket, is_busy, seated, fresh, IsNoted}
+use Rattle.bk_turn.specs.Rule.{Orderly}
 use Rattle.bk_turn.specs.Steps.{Sat, begun, filled}
-use Rattle.bk_turn.proofs.Beginnings.{prefix_self, prefix_none, prefix_length, no_length}
+use Rattle.bk_turn.proofs.Beginnings.{prefix_self, prefix_length, no_length}
 use Rattle.bk_turn.proofs.Totals.{total-one, set_at, each_set, each_only, one_place, new_lives}
 use Rattle.bk_turn.proofs.Moves.{tickets_kept, numbers_moved, weights_moved}
 use Rattle.bk_turn.proofs.Looks.{plainly_noted}

@@ -1,5 +1,5 @@
 -- The addition that ends a holding keeps the rule: the history has one step more, and the next ticket is served.
-use Rattle.std.proofs.Common.{◌≡◌, ◌==◌, ◌≢◌, ℕ, zero, suc, ◌+◌, ◌-◌, ◌%◌, ◌^◌, ◌<◌, ◌≤◌, Bool, true, false, List, [], ◌∷◌, ◌++◌, length, set, get_or, Option, Some, None, slice_get, refl, ap, sym, ◌∙◌, subst, arith, length-append, ⊎_elim}
+use Rattle.std.proofs.Common.{◌≡◌, ◌≢◌, ℕ, ◌+◌, ◌-◌, ◌%◌, ◌^◌, ◌<◌, ◌≤◌, true, List, [], ◌∷◌, ◌++◌, length, set, get_or, Option, Some, None, slice_get, refl, ap, sym, ◌∙◌, subst, arith, length-append, ⊎_elim}
 use Rattle.std.proofs.lemmas.List.{append-nil}
 use mathlib.Core.List.{IsPrefix}
 use mathlib.Core.Option.{some, none}
@@ -7,20 +7,18 @@ use mathlib.Core.Option as maybe
 use mathlib.Core.Logic.{dite}
 use native.Mathlib.Decide.{ℕ_discrete, dec_le}
 use lib.ListN.{get_elem?}
-use Rattle.atomic_table.specs.Table.{State, step, gives, rest, put_back, Allows}
+use Rattle.atomic_table.specs.Table.{step, gives, rest, put_back, Allows}
 use Rattle.bk_base.specs.declared.histories.Opening.{Opening}
 use Rattle.bk_base.specs.declared.histories.Step.{Step}
-use Rattle.bk_turn.specs.declared.views.View.{View}
 use Rattle.bk_turn.specs.declared.seats.Seated.{Seated}
-use Rattle.bk_turn.specs.declared.seats.Stage.{Stage}
-use Rattle.bk_turn.specs.declared.seats.Stage.TheVariants.{Fresh, Filling, Idle, Waiting, Holding, Gone}
-use Rattle.bk_turn.specs.History.{own, own_of, number_at, IsApart}
-use Rattle.bk_turn.specs.Seats.{is_live, is_new, has_slot, has_ticket, is_number, is_busy, busy, tickets, numbers, seated, IsNoted, plain_note}
-use Rattle.bk_turn.specs.Rule.{TicketsInOrder, SlotHasItsPlace, ValueStandsForTheLongest, IsNumber, NumbersAreApart, Orderly}
+use Rattle.bk_turn.specs.declared.seats.Stage.TheVariants.{Fresh, Idle, Holding}
+use Rattle.bk_turn.specs.History.{own, number_at}
+use Rattle.bk_turn.specs.Seats.{is_live, is_new, has_slot, has_ticket, is_number, is_busy, numbers, seated}
+use Rattle.bk_turn.specs.Rule.{TicketsInOrder, SlotHasItsPlace, IsNumber, NumbersAreApart, Orderly}
 use Rattle.bk_turn.specs.Steps.{Sat, served}
-use Rattle.bk_turn.proofs.Beginnings.{prefix_self, prefix_get, prefix_more, get_below, get_snoc, get_last, own-append, own_other}
-use Rattle.bk_turn.proofs.Totals.{total-set, total-one, total-two, at_once, set_at, one_if_same, one_if_not, each_set, new_busy, slot_busy, one_place}
-use Rattle.bk_turn.proofs.Moves.{Goes, tickets_kept, seen_moved, weights_moved}
+use Rattle.bk_turn.proofs.Beginnings.{prefix_self, prefix_get, get_below, get_snoc, get_last, own-append, own_other}
+use Rattle.bk_turn.proofs.Totals.{total-set, total-one, total-two, set_at, one_if_same, one_if_not, each_set, new_busy, slot_busy, one_place}
+use Rattle.bk_turn.proofs.Moves.{seen_moved, weights_moved}
 use Rattle.bk_turn.proofs.Looks.{not_busy, one_ticket, plainly_noted}
 
 -- the ticket t is had no more, and the next one is served

@@ -1,23 +1,17 @@
 -- Cutting a seat in two keeps the rule.
-use Rattle.std.proofs.Common.{◌≡◌, ◌==◌, ◌≢◌, ℕ, zero, suc, ◌+◌, ◌-◌, ◌<◌, ◌≤◌, Bool, true, false, ◌||◌, List, [], ◌∷◌, ◌++◌, length, set, get_or, Option, Some, None, slice_get, refl, ap, sym, ◌∙◌, subst, arith, length-append, length-set, ◌⊎◌, inl, inr, ⊎_elim}
+use Rattle.std.proofs.Common.{◌≡◌, ℕ, ◌≤◌, true, false, List, [], ◌∷◌, ◌++◌, length, set, Option, Some, None, refl, ap, sym, ◌∙◌, arith}
 use mathlib.Core.List.{IsPrefix}
 use mathlib.Core.Option.{some, none, some-injective, some-ne-none}
 use mathlib.Core.Option as maybe
-use mathlib.Core.Logic.{dite}
-use native.Mathlib.Decide.{ℕ_discrete, dec_le}
 use lib.ListN.{get_elem?}
-use Rattle.atomic_table.specs.Table.{State, step, takes, gives, keeps, rest, put_back, Allows, Splits, Joins, Final, Seen, opening}
+use Rattle.atomic_table.specs.Table.{Splits}
 use Rattle.bk_base.specs.declared.histories.Opening.{Opening}
 use Rattle.bk_base.specs.declared.histories.Step.{Step}
-use Rattle.bk_turn.specs.declared.views.View.{View}
 use Rattle.bk_turn.specs.declared.seats.Seated.{Seated}
-use Rattle.bk_turn.specs.declared.seats.Stage.{Stage}
-use Rattle.bk_turn.specs.declared.seats.Stage.TheVariants.{Fresh, Filling, Idle, Waiting, Holding, Gone}
-use Rattle.bk_turn.specs.History.{own, own_of, number_at, IsApart, longer}
-use Rattle.bk_turn.specs.Seats.{is_live, is_new, has_slot, has_ticket, is_number, is_busy, busy, tickets, numbers, weights, total, seated, Each, EachLive, IsNoted, cut_left, cut_right}
+use Rattle.bk_turn.specs.declared.seats.Stage.TheVariants.{Fresh, Idle, Holding}
+use Rattle.bk_turn.specs.Seats.{is_live, is_new, has_slot, has_ticket, is_number, is_busy, tickets, numbers, total, Each, EachLive, IsNoted, cut_left, cut_right}
 use Rattle.bk_turn.specs.Rule.{TicketsInOrder, SeenFromTheFront, SlotHasItsPlace, ValueStandsForTheLongest, IsNumber, NumbersAreApart, WeightsAreWhole, Orderly}
-use Rattle.bk_turn.proofs.Beginnings.{prefix_self}
-use Rattle.bk_turn.proofs.Totals.{total-set, total-snoc, set_at, at_once, each_set, each_snoc, each_live_set, each_live_snoc, one_place}
+use Rattle.bk_turn.proofs.Totals.{total-set, total-snoc, at_once, each_set, each_snoc, each_live_set, each_live_snoc, one_place}
 use Rattle.bk_turn.proofs.Moves.{known_kept}
 use Rattle.bk_turn.proofs.Looks.{plainly_noted}
 use Rattle.atomic_table.proofs.Lists.{at_longer}

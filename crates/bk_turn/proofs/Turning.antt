@@ -3,7 +3,7 @@ use Rattle.std.proofs.Common.{◌≡◌, ℕ, ◌+◌, List, [], ◌∷◌, ◌+
 use mathlib.Core.List.{IsPrefix}
 use Rattle.bk_base.specs.declared.histories.Step.{Step}
 use Rattle.bk_turn.specs.declared.views.View.{View}
-use Rattle.bk_turn.specs.History.{own, own_of, number_at, Continues, Ends, Advances}
+use Rattle.bk_turn.specs.History.{own_of, number_at, Continues, Ends, Advances}
 use Rattle.bk_turn.proofs.Beginnings.{prefix_trans, prefix_more}
 
 -- the step of a holding comes behind all that was seen

@@ -1,9 +1,9 @@
 -- What the fields of a pass, a holding and a turn keep.
-use Rattle.std.specs.Prelude.{◌≡◌, ◌==◌, ◌&&◌, ◌+◌, ℕ, Bool, true, false, List, [], ◌∷◌, length, Option, Some, None}
+use Rattle.std.specs.Prelude.{◌≡◌, ◌==◌, ℕ, Bool, true, false, List, [], ◌∷◌, Option, Some, None}
 use Rattle.atomic_table.specs.Seated.{TableId}
 use Rattle.bk_turn.specs.declared.seats.Seated.{Seated}
 use Rattle.bk_turn.specs.declared.seats.Stage.{Stage}
-use Rattle.bk_turn.specs.declared.seats.Stage.TheVariants.{Fresh, Filling, Idle, Waiting, Holding, Gone}
+use Rattle.bk_turn.specs.declared.seats.Stage.TheVariants.{Idle, Holding}
 use Rattle.bk_turn.specs.Seats.{spent}
 
 -- the table has the two words and the slot

@@ -1,5 +1,5 @@
 -- A list of numbers as what its pushes leave. The tests and the measurements put such a list under the turn.
-use Rattle.std.specs.Prelude.{◌≡◌, ℕ, false, List, Option, None, map, All}
+use Rattle.std.specs.Prelude.{◌≡◌, ℕ, false, List, None, map, All}
 use Rattle.bk_base.specs.declared.calls.Call.TheVariants.{Quiet}
 use Rattle.bk_base.specs.declared.calls.Answer.TheVariants.{Done}
 use Rattle.bk_base.specs.declared.histories.Step.{Step}

@@ -1,6 +1,6 @@
 -- The rule that every step of every seat keeps, in six points.
 -- Word 0 is the ticket that is served, and word 1 the next ticket to be drawn. The one slot has the value.
-use Rattle.std.specs.Prelude.{◌≡◌, ℕ, ◌+◌, ◌-◌, ◌≤◌, ◌<◌, Bool, true, false, List, [], ◌∷◌, length, slice_get, Option, Some, None}
+use Rattle.std.specs.Prelude.{◌≡◌, ℕ, ◌+◌, ◌-◌, ◌≤◌, ◌<◌, true, false, List, [], ◌∷◌, length, slice_get, Option, Some, None}
 use mathlib.Core.List.{IsPrefix}
 use mathlib.Core.Option as maybe
 use mathlib.Core.Option.{some, none}
@@ -8,10 +8,8 @@ use lib.ListN.{get_elem?}
 use Rattle.atomic_table.specs.Table.{State}
 use Rattle.bk_base.specs.declared.histories.Opening.{Opening}
 use Rattle.bk_base.specs.declared.histories.Step.{Step}
-use Rattle.bk_turn.specs.declared.views.View.{View}
 use Rattle.bk_turn.specs.declared.seats.Seated.{Seated}
-use Rattle.bk_turn.specs.declared.seats.Stage.{Stage}
-use Rattle.bk_turn.specs.declared.seats.Stage.TheVariants.{Fresh, Filling, Idle, Waiting, Holding, Gone}
+use Rattle.bk_turn.specs.declared.seats.Stage.TheVariants.{Fresh, Holding}
 use Rattle.bk_turn.specs.History.{own}
 use Rattle.bk_turn.specs.Seats.{is_live, is_new, has_slot, tickets, numbers, weights, busy, Each, EachLive, IsNoted}
 

@@ -1,9 +1,8 @@
 -- Seats, and how many of some kind stand in a list of them.
-use Rattle.std.specs.Prelude.{◌≡◌, ◌==◌, ℕ, ◌+◌, ◌-◌, ◌≤◌, Bool, true, false, ◌||◌, List, [], ◌∷◌, ◌++◌, length, Option, Some, None}
+use Rattle.std.specs.Prelude.{◌≡◌, ◌==◌, ℕ, ◌+◌, ◌-◌, Bool, true, false, ◌||◌, List, [], ◌∷◌, Option, Some, None}
 use mathlib.Core.List.{IsPrefix}
 use mathlib.Core.Option.{some}
 use lib.ListN.{get_elem?}
-use Rattle.bk_base.specs.declared.calls.Entry.{Entry}
 use Rattle.bk_base.specs.declared.calls.Call.TheVariants.{Quiet}
 use Rattle.bk_base.specs.declared.calls.Answer.TheVariants.{Done}
 use Rattle.bk_base.specs.declared.histories.Glance.{Glance}

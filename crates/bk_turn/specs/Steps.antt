@@ -1,5 +1,5 @@
 -- What each step on the table tells the seat that makes it.
-use Rattle.std.specs.Prelude.{◌≡◌, ℕ, ◌+◌, Bool, true, false, List, [], ◌∷◌, ◌++◌, length, Option, Some, None}
+use Rattle.std.specs.Prelude.{◌≡◌, ℕ, ◌+◌, true, false, List, [], ◌∷◌, ◌++◌, length, Option, Some, None}
 use mathlib.Core.List.{IsPrefix}
 use Rattle.atomic_table.specs.Table as table
 use Rattle.atomic_table.specs.Table.{Me}
@@ -8,7 +8,7 @@ use Rattle.bk_base.specs.declared.histories.Step.{Step}
 use Rattle.bk_turn.specs.declared.views.View.{View}
 use Rattle.bk_turn.specs.declared.seats.Seated.{Seated}
 use Rattle.bk_turn.specs.declared.seats.Stage.{Stage}
-use Rattle.bk_turn.specs.declared.seats.Stage.TheVariants.{Fresh, Filling, Idle, Waiting, Holding, Gone}
+use Rattle.bk_turn.specs.declared.seats.Stage.TheVariants.{Filling, Idle, Waiting, Holding}
 use Rattle.bk_turn.specs.History.{own, own_of, number_at}
 use Rattle.bk_turn.specs.Seats.{seated, IsNoted}
 

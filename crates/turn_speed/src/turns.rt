@@ -1,5 +1,5 @@
 //! Rounds of the turn.
-ghost use Rattle.std.specs.Prelude.{◌≡◌, ◌<◌, ◌≤◌, ℕ, length, All, Option, slice_index_or};
+ghost use Rattle.std.specs.Prelude.{◌≡◌, ◌<◌, ◌≤◌, ◌%◌, ◌^◌, ℕ, length, All, Option, IfSome, slice_index_or};
 ghost use Rattle.bk_turn.specs.declared.passes.Pass.{Pass};
 ghost use Rattle.bk_turn.specs.Handles.{turn_id, pass_turn, pass_view};
 ghost use Rattle.bk_turn.specs.Places.{place_view, HasPass};
@@ -79,21 +79,30 @@ fn hold_often<R: Wait>(rt: &R, turn: &Turn<Count>, place: &mut Option<Pass>, rou
     ensures weight { (place_view place.new).weight ≡ (place_view place.old).weight }
 {
     for _ in 0..rounds {
-        hold(rt, turn, place);
+        if hold(rt, turn, place).is_none() {
+            return;
+        }
     }
 }
 
-/// One holding, which counts itself.
-fn hold<R: Wait>(rt: &R, turn: &Turn<Count>, place: &mut Option<Pass>)
+/// One holding, which counts itself. It answers how many steps the history then has, or None where
+/// the tickets are used up.
+fn hold<R: Wait>(rt: &R, turn: &Turn<Count>, place: &mut Option<Pass>) -> Option<u64>
     requires { HasPass (turn_id turn.now) place.old }
     ensures turn { HasPass (turn_id turn.now) place.new }
     ensures weight { (place_view place.new).weight ≡ (place_view place.old).weight }
+    ensures counted { IfSome result (λ count. count ≡ length (place_view place.new).seen % 2 ^ 64) }
 {
     match turn.enter(rt, take_pass(place)) {
         Ok(mut holding) => {
-            holding.value.steps = holding.value.steps.wrapping_add(1);
+            let count = holding.value.steps.wrapping_add(1);
+            holding.value.steps = count;
             put_pass(place, turn.leave(holding));
+            Some(count)
         }
-        Err(Spent { pass }) => put_pass(place, pass),
+        Err(Spent { pass }) => {
+            put_pass(place, pass);
+            None
+        }
     }
 }

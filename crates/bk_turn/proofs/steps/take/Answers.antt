@@ -1,4 +1,4 @@
-use Rattle.std.proofs.Common.{ap, arith, ◌∙◌, subst, ℕ, [], ◌∷◌, sym, Some}
+use Rattle.std.proofs.Common.{ap, ◌∙◌, ◌∷◌, sym, Some}
 use Rattle.atomic_table.specs.Table.{rest}
 use Rattle.bk_turn.proofs.steps.take.Goals as goal
 

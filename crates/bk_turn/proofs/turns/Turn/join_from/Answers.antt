@@ -1,4 +1,4 @@
-use Rattle.std.proofs.Common.{◌≡◌, ℕ, ◌+◌, ◌<◌, ◌≤◌, length, get_or, take, set, Option, Some, None, sym, ◌∙◌, ap, subst, arith, get_or-set_same, get_or-set_other, length-set}
+use Rattle.std.proofs.Common.{◌≡◌, ℕ, ◌<◌, length, get_or, set, Option, Some, None, sym, ◌∙◌, ap, subst, arith, get_or-set_same, get_or-set_other, length-set}
 use Rattle.std.proofs.lemmas.List.{get_or_read}
 use Rattle.std.proofs.lemmas.List.Sums.{sum_by_more}
 use mathlib.Core.List.{IsPrefix}
@@ -7,7 +7,7 @@ use native.Mathlib.Decide.{ℕ_discrete}
 use Rattle.bk_turn.specs.declared.passes.Pass.{Pass}
 use Rattle.bk_turn.specs.History.{own_of}
 use Rattle.bk_turn.specs.Handles.{pass_view}
-use Rattle.bk_turn.specs.Places.{place_view, weights_of}
+use Rattle.bk_turn.specs.Places.{place_view}
 use Rattle.bk_turn.proofs.Beginnings.{prefix_trans}
 use Rattle.bk_turn.proofs.turns.Turn.join_from.Goals as goal
 

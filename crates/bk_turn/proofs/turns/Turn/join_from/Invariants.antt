@@ -3,7 +3,7 @@ use mathlib.Core.List.{IsPrefix}
 use Rattle.bk_turn.specs.declared.passes.Pass.{Pass}
 use Rattle.bk_turn.specs.Handles.{turn_id, pass_turn, pass_view}
 use Rattle.bk_turn.specs.History.{own_of}
-use Rattle.bk_turn.specs.Places.{place_view, HasPass, weights_of}
+use Rattle.bk_turn.specs.Places.{place_view, weights_of}
 use Rattle.bk_turn.proofs.turns.Turn.join_from.Given as goal
 
 abbrev pub invariant-loop-place : goal.invariant-loop-place

@@ -1,4 +1,3 @@
-use Rattle.std.proofs.Common.{rules}
 use Rattle.bk_turn.proofs.Opens.{made}
 use Rattle.bk_turn.proofs.turns.Turn.new.Goals as goal
 
