@@ -1,0 +1,317 @@
+-- What holds between two calls holds after each.
+use Rattle.std.proofs.Common.{◌≡◌, ◌⊎◌, ℕ, ◌+◌, ◌<◌, ◌≤◌, Bool, true, false, cond, List, [], ◌∷◌, ◌++◌, length, take, arith, refl, sym, ◌∙◌, ap, subst, inl, inr}
+use Rattle.std.specs.declared.option.Option.{Option}
+use Rattle.std.specs.declared.option.Option.TheVariants.{None, Some}
+use Rattle.std.specs.Option.{option_map, is_some, IsSome, IsSomeAnd, IfSome, unwrap_or}
+use Rattle.std.proofs.lemmas.Bool.{cases_Bool, true≢false}
+use Rattle.std.proofs.lemmas.List.{length-append, length-take-le}
+use Rattle.std.specs.Result.{OnOk, OnErr}
+use Rattle.std.specs.declared.result.Result.{Result}
+use Rattle.std.specs.declared.result.Result.TheVariants.{Ok, Err}
+use Rattle.bk_base.specs.declared.names.Name.{Name}
+use Rattle.bk_disk.specs.Names.{same}
+use Rattle.bk_disk.specs.Told.{Table, Front, Told, at, bytes_of, with_name, IsOurs, IsWell}
+use Rattle.bk_disk.specs.Calls.{Appended, Synced, Cut, Made, all_safe, fresh, handed_more}
+use Rattle.bk_disk.proofs.Names.{same_eq}
+use Rattle.bk_disk.proofs.Files.{appended_ours, appended_bytes, appended_whole, bytes_of-changed_other, cut_bytes, cut_ours, made_bytes, made_ours, synced_ours, there_in_both}
+use Rattle.bk_disk.proofs.Tables.{at-changed, at-changed_other, at-with_name, at-with_name_other}
+use Rattle.bk_files.specs.declared.catalog.Active.{Active}
+use Rattle.bk_files.specs.Catalog.{main, grown_of, torn_of, with_torn}
+use Rattle.bk_files.specs.Files.{IsActive, IsUnused, StandsFor, SettledOf}
+
+abbrev IsSafeTo : ℕ → Option Front → Type 0
+IsSafeTo len o = IfSome o (λ f. length f.safe ≤ len)
+
+other : (i j : ℕ) → i < j → same (main j) (main i) ≡ false
+unfolding same
+other i j h = grind (arith, h)
+
+other_back : (i j : ℕ) → i < j → same (main i) (main j) ≡ false
+unfolding same
+other_back i j h = grind (arith, h)
+
+-- A name that a call leaves alone
+
+unused_same : (n : Name) (t u : Told) → bytes_of n u.image ≡ bytes_of n t.image → at u.fronts n ≡ at t.fronts n → IsUnused n t → IsUnused n u
+unused_same n t u bytes front w = record { empty = bytes ∙ w.empty; front = subst (λ o. IfSome o (λ f. (f.lent ≡ false) × (f.safe ≡ []))) (sym front) w.front }
+
+active_same : (n : Name) (a : Active) (t u : Told) → at u.image n ≡ at t.image n → at u.fronts n ≡ at t.fronts n → IsActive n a t → IsActive n a u
+active_same n a t u image front w =
+    let bytes : bytes_of n u.image ≡ bytes_of n t.image = rw image refl in
+    record {
+      ours = (subst (λ (o : Option (List ℕ)). IsSome o) (sym image) w.ours.0, subst (λ (o : Option Front). IsSomeAnd o (λ f. f.lent ≡ false)) (sym front) w.ours.1);
+      known = λ whole. ap length bytes ∙ w.known whole;
+      inside = omega (arith, ap length bytes, w.inside);
+      safe = subst (λ o. IsSafeTo a.len o) (sym front) w.safe;
+    }
+
+unused_appended : (n m : Name) (k : ℕ) (piece : List ℕ) (t u : Told) → same m n ≡ false → Appended n k piece t u → IsUnused m t → IsUnused m u
+unused_appended n m k piece t u h b w = unused_same m t u
+    (ap (λ i. bytes_of m i) b.image ∙ bytes_of-changed_other n m (λ bytes. bytes ++ take k piece) t.image h)
+    (ap (λ fs. at fs m) b.fronts ∙ at-changed_other n m (handed_more (length (bytes_of n t.image ++ take k piece)) piece) t.fronts h) w
+
+unused_cut : (n m : Name) (len : ℕ) (t u : Told) → same m n ≡ false → Cut n len t u → IsUnused m t → IsUnused m u
+unused_cut n m len t u h b w = unused_same m t u
+    (ap (λ i. bytes_of m i) b.image ∙ bytes_of-changed_other n m (λ bytes. take len bytes) t.image h)
+    (ap (λ fs. at fs m) b.fronts) w
+
+unused_synced : (n m : Name) (t u : Told) → same m n ≡ false → Synced n t u → IsUnused m t → IsUnused m u
+unused_synced n m t u h b w = unused_same m t u
+    (ap (λ i. bytes_of m i) b.image)
+    (ap (λ fs. at fs m) b.fronts ∙ at-changed_other n m (all_safe (bytes_of n t.image)) t.fronts h) w
+
+made_at : (n m : Name) (t u : Told) → same m n ≡ false → Made n false t u → at u.image m ≡ at t.image m
+made_at n m t u h b = ap (λ i. at i m) b.image ∙ at-with_name_other n m [] t.image h
+
+made_front : (n m : Name) (t u : Told) → same m n ≡ false → Made n false t u → at u.fronts m ≡ at t.fronts m
+made_front n m t u h b = ap (λ fs. at fs m) b.fronts ∙ at-with_name_other n m (fresh false) t.fronts h
+
+unused_made : (n m : Name) (t u : Told) → same m n ≡ false → Made n false t u → IsUnused m t → IsUnused m u
+unused_made n m t u h b w = unused_same m t u (rw (made_at n m t u h b) refl) (made_front n m t u h b) w
+
+-- The active file after each call on it
+
+safe_after : (o : Option Front) (g : Front → Front) (len more : ℕ) → ((f : Front) → (g f).safe ≡ f.safe) → len ≤ more → IsSafeTo len o → IsSafeTo more (option_map g o)
+safe_after None g len more keeps le h = tt
+safe_after (Some f) g len more keeps le h = omega (arith, ap length (keeps f), le, h)
+
+safe_synced : (o : Option Front) (bytes : List ℕ) (len : ℕ) → length bytes ≡ len → IsSafeTo len (option_map (all_safe bytes) o)
+safe_synced None bytes len h = tt
+safe_synced (Some f) bytes len h = omega (arith, h)
+
+appended_front : (n : Name) (k : ℕ) (piece : List ℕ) (t u : Told) → Appended n k piece t u → at u.fronts n ≡ option_map (handed_more (length (bytes_of n t.image ++ take k piece)) piece) (at t.fronts n)
+appended_front n k piece t u b = ap (λ fs. at fs n) b.fronts ∙ at-changed n (handed_more (length (bytes_of n t.image ++ take k piece)) piece) t.fronts
+
+active_appended : (n : Name) (a : Active) (piece : List ℕ) (t u : Told) → a.torn ≡ false → Appended n (length piece) piece t u → IsActive n a t
+    → IsActive n (record { len = a.len + length piece; torn = false }) u
+active_appended n a piece t u whole b w =
+    let long : length (bytes_of n u.image) ≡ a.len + length piece =
+    omega (arith, ap length (appended_whole n piece t u w.ours b), length-append (bytes_of n t.image) piece, w.known whole) in
+    record {
+      ours = appended_ours n n (length piece) piece t u b w.ours;
+      known = λ _. long;
+      inside = omega (arith, long);
+      safe = subst (λ o. IsSafeTo (a.len + length piece) o) (sym (appended_front n (length piece) piece t u b))
+          (safe_after (at t.fronts n) _ a.len (a.len + length piece) (λ f. refl) (omega arith) w.safe);
+    }
+
+active_torn : (n : Name) (a : Active) (k : ℕ) (piece : List ℕ) (t u : Told) → Appended n k piece t u → IsActive n a t → IsActive n (record { len = a.len; torn = true }) u
+active_torn n a k piece t u b w = record {
+  ours = appended_ours n n k piece t u b w.ours;
+  known = λ whole. absurd (true≢false whole);
+  inside = omega (arith, ap length (appended_bytes n k piece t u w.ours b), length-append (bytes_of n t.image) (take k piece), w.inside);
+  safe = subst (λ o. IsSafeTo a.len o) (sym (appended_front n k piece t u b)) (safe_after (at t.fronts n) _ a.len a.len (λ f. refl) (omega arith) w.safe);
+}
+
+cut_len : (n : Name) (a : Active) (t u : Told) → Cut n a.len t u → IsActive n a t → length (bytes_of n u.image) ≡ a.len
+cut_len n a t u b w = ap length (cut_bytes n a.len t u w.ours b) ∙ length-take-le a.len (bytes_of n t.image) w.inside
+
+active_cut : (n : Name) (a : Active) (t u : Told) → Cut n a.len t u → IsActive n a t → IsActive n a u
+active_cut n a t u b w =
+    let long = cut_len n a t u b w in
+    record {
+      ours = cut_ours n n a.len t u b w.ours;
+      known = λ _. long;
+      inside = omega (arith, long);
+      safe = subst (λ fs. IsSafeTo a.len (at fs n)) (sym b.fronts) w.safe;
+    }
+
+active_synced : (n : Name) (a : Active) (torn : Bool) (t u : Told) → length (bytes_of n t.image) ≡ a.len → Synced n t u → IsActive n a t
+    → IsActive n (record { len = a.len; torn = torn }) u
+active_synced n a torn t u long b w =
+    let bytes : bytes_of n u.image ≡ bytes_of n t.image = ap (λ i. bytes_of n i) b.image in
+    let still : length (bytes_of n u.image) ≡ a.len = ap length bytes ∙ long in
+    record {
+      ours = synced_ours n n t u b w.ours;
+      known = λ _. still;
+      inside = omega (arith, still);
+      safe = subst (λ o. IsSafeTo a.len o) (sym (ap (λ fs. at fs n) b.fronts ∙ at-changed n (all_safe (bytes_of n t.image)) t.fronts))
+          (safe_synced (at t.fronts n) (bytes_of n t.image) a.len long);
+    }
+
+-- A new file
+
+abbrev empty : Active
+empty = record { len = 0; torn = false }
+
+ours_of : (o : Option Front) → is_some o ≡ true → IfSome o (λ f. (f.lent ≡ false) × (f.safe ≡ [])) → IsSomeAnd o (λ f. f.lent ≡ false)
+ours_of None h w = absurd (true≢false (sym h))
+ours_of (Some f) h w = w.0
+
+safe_of_free : (o : Option Front) → IfSome o (λ f. (f.lent ≡ false) × (f.safe ≡ [])) → IsSafeTo 0 o
+safe_of_free None w = tt
+safe_of_free (Some f) w = omega (arith, ap length w.1)
+
+there_already : {X : Type 0} (n : Name) (x : X) (t : Table X) → is_some (at t n) ≡ true → with_name n x t ≡ t
+there_already n x t h = ap (λ b. cond b t (t ++ (n, x) ∷ [])) h
+
+active_made : (n : Name) (t u : Told) → IsWell t → Made n false t u → IsUnused n t → IsActive n empty u
+active_made n t u well b w =
+    elim (cases_Bool (is_some (at t.image n))) [
+      | inl there ↦
+          let here : is_some (at t.fronts n) ≡ true = there_in_both t n well ∙ there in
+          active_same n empty t u (ap (λ i. at i n) (b.image ∙ there_already n [] t.image there))
+          (ap (λ fs. at fs n) (b.fronts ∙ there_already n (fresh false) t.fronts here))
+          (record {
+            ours = (there, ours_of (at t.fronts n) here w.front);
+            known = λ _. ap length w.empty;
+            inside = omega arith;
+            safe = safe_of_free (at t.fronts n) w.front;
+          })
+      | inr absent ↦
+          let nowhere : is_some (at t.fronts n) ≡ false = there_in_both t n well ∙ absent in
+          record {
+            ours = made_ours n t u well absent b;
+            known = λ _. ap length (made_bytes n false t u absent b);
+            inside = omega arith;
+            safe = subst (λ o. IsSafeTo 0 o) (sym (ap (λ fs. at fs n) b.fronts ∙ at-with_name n (fresh false) t.fronts nowhere)) (omega arith);
+          }
+    ]
+
+none_of : (l : List ℕ) → length l ≤ 0 → l ≡ []
+none_of [] h = refl
+none_of (x ∷ xs) h = absurd (omega (arith, h))
+
+free_of : (o : Option Front) → IsSomeAnd o (λ f. f.lent ≡ false) → IsSafeTo 0 o → IfSome o (λ f. (f.lent ≡ false) × (f.safe ≡ []))
+free_of None h s = tt
+free_of (Some f) h s = (h, none_of f.safe s)
+
+unused_of : (n : Name) (t : Told) → IsActive n empty t → IsUnused n t
+unused_of n t w = record { empty = none_of (bytes_of n t.image) (omega (arith, w.known refl)); front = free_of (at t.fronts n) w.ours.1 w.safe }
+
+-- All of it
+
+pub stands_fresh : (last : ℕ) (t : Told) → IsWell t → ((n : Name) → last < n.id → is_some (at t.image n) ≡ false) → StandsFor None last t
+stands_fresh last t well free = record {
+  now = tt;
+  unused = λ id high. record {
+    empty = none_at (at t.image (main id)) (free (main id) high);
+    front = no_front (at t.fronts (main id)) (there_in_both t (main id) well ∙ free (main id) high);
+  };
+} where
+  none_at : (o : Option (List ℕ)) → is_some o ≡ false → unwrap_or o [] ≡ []
+  none_at None h = refl
+  none_at (Some x) h = absurd (true≢false h)
+
+  no_front : (o : Option Front) → is_some o ≡ false → IfSome o (λ f. (f.lent ≡ false) × (f.safe ≡ []))
+  no_front None h = tt
+  no_front (Some f) h = absurd (true≢false h)
+
+pub stands_appended : (active : Option Active) (last : ℕ) (piece : List ℕ) (t u : Told) → torn_of active ≡ false → Appended (main last) (length piece) piece t u
+    → StandsFor active last t → StandsFor (grown_of (length piece) active) last u
+stands_appended None last piece t u whole b w = record { now = tt; unused = λ id high. unused_appended (main last) (main id) (length piece) piece t u (other last id high) b (w.unused id high) }
+stands_appended (Some a) last piece t u whole b w = record {
+  now = active_appended (main last) a piece t u whole b w.now;
+  unused = λ id high. unused_appended (main last) (main id) (length piece) piece t u (other last id high) b (w.unused id high);
+}
+
+pub stands_torn : (active : Option Active) (last k : ℕ) (piece : List ℕ) (t u : Told) → Appended (main last) k piece t u
+    → StandsFor active last t → StandsFor (with_torn true active) last u
+stands_torn None last k piece t u b w = record { now = tt; unused = λ id high. unused_appended (main last) (main id) k piece t u (other last id high) b (w.unused id high) }
+stands_torn (Some a) last k piece t u b w = record {
+  now = active_torn (main last) a k piece t u b w.now;
+  unused = λ id high. unused_appended (main last) (main id) k piece t u (other last id high) b (w.unused id high);
+}
+
+pub stands_cut : (a : Active) (last : ℕ) (t u : Told) → Cut (main last) a.len t u → StandsFor (Some a) last t → StandsFor (Some a) last u
+stands_cut a last t u b w = record {
+  now = active_cut (main last) a t u b w.now;
+  unused = λ id high. unused_cut (main last) (main id) a.len t u (other last id high) b (w.unused id high);
+}
+
+stands_synced : (a : Active) (torn : Bool) (last : ℕ) (t u : Told) → length (bytes_of (main last) t.image) ≡ a.len → Synced (main last) t u
+    → StandsFor (Some a) last t → StandsFor (Some (record { len = a.len; torn = torn })) last u
+stands_synced a torn last t u long b w = record {
+  now = active_synced (main last) a torn t u long b w.now;
+  unused = λ id high. unused_synced (main last) (main id) t u (other last id high) b (w.unused id high);
+}
+
+pub stands_repaired : (a : Active) (last : ℕ) (t m u : Told) → Cut (main last) a.len t m → Synced (main last) m u
+    → StandsFor (Some a) last t → StandsFor (Some (record { len = a.len; torn = false })) last u
+stands_repaired a last t m u cut synced w = stands_synced a false last m u (cut_len (main last) a t m cut w.now) synced (stands_cut a last t m cut w)
+
+pub stands_settled : (active : Option Active) (last : ℕ) (t u : Told) → torn_of active ≡ false → SettledOf last active t u → StandsFor active last t → StandsFor active last u
+stands_settled None last t u whole b w = subst (λ x. StandsFor None last x) (sym b) w
+stands_settled (Some a) last t u whole b w = stands_synced a a.torn last t u (w.now.known whole) b w
+
+-- the next file is made and is the active one
+pub stands_begun : (active : Option Active) (last : ℕ) (t u : Told) → IsWell t → Made (main (last + 1)) false t u → StandsFor active last t → StandsFor (Some empty) (last + 1) u
+stands_begun active last t u well b w = record {
+  now = active_made (main (last + 1)) t u well b (w.unused (last + 1) (omega arith));
+  unused = λ id high. unused_made (main (last + 1)) (main id) t u (other (last + 1) id high) b (w.unused id (omega (arith, high)));
+}
+
+-- the next file was made by a call that was refused
+pub stands_half_begun : (active : Option Active) (last : ℕ) (t u : Told) → IsWell t → Made (main (last + 1)) false t u → StandsFor active last t → StandsFor active last u
+stands_half_begun active last t u well b w = record {
+  now = go active w.now;
+  unused = λ id high. unused_next id high;
+} where
+  go : (o : Option Active) → IfSome o (λ a. IsActive (main last) a t) → IfSome o (λ a. IsActive (main last) a u)
+  go None h = tt
+  go (Some a) h = active_same (main last) a t u (made_at (main (last + 1)) (main last) t u (other_back last (last + 1) (omega arith)) b)
+      (made_front (main (last + 1)) (main last) t u (other_back last (last + 1) (omega arith)) b) h
+
+  unused_next : (id : ℕ) → last < id → IsUnused (main id) u
+  unused_next id high =
+      elim (cases_Bool (same (main id) (main (last + 1)))) [
+        | inl is ↦ subst (λ n. IsUnused n u) (sym (same_eq (main id) (main (last + 1)) is)) (unused_of (main (last + 1)) u (active_made (main (last + 1)) t u well b (w.unused (last + 1) (omega arith))))
+        | inr isnt ↦ unused_made (main (last + 1)) (main id) t u isnt b (w.unused id high)
+      ]
+
+-- For the answers: after a call whose result is open, and from what a pattern found
+
+either : {T E : Type 0} (r : Result T E) (P Q R : Type 0) → OnOk r P → OnErr r Q → (P → R) → (Q → R) → R
+either (Ok x) P Q R p q f g = f p
+either (Err e) P Q R p q f g = g q
+
+synced_any : (active : Option Active) (last : ℕ) (t u : Told) → torn_of active ≡ false → Synced (main last) t u → StandsFor active last t → StandsFor active last u
+synced_any None last t u whole b w = record { now = tt; unused = λ id high. unused_synced (main last) (main id) t u (other last id high) b (w.unused id high) }
+synced_any (Some a) last t u whole b w = stands_synced a a.torn last t u (w.now.known whole) b w
+
+pub after_sync : {T E : Type 0} (r : Result T E) (active : Option Active) (last : ℕ) (n : Name) (t u : Told) → torn_of active ≡ false → n ≡ main last
+    → OnOk r (Synced n t u) → OnErr r (u ≡ t) → StandsFor active last t → StandsFor active last u
+after_sync r active last n t u whole is ok err w =
+    either r (Synced n t u) (u ≡ t) (StandsFor active last u) ok err
+    (λ b. synced_any active last t u whole (subst (λ m. Synced m t u) is b) w)
+    (λ e. subst (λ x. StandsFor active last x) (sym e) w)
+
+pub after_cut : (active : Option Active) (a : Active) (last : ℕ) (n : Name) (t u : Told) → active ≡ Some a → n ≡ main last
+    → (u ≡ t) ⊎ Cut n a.len t u → StandsFor active last t → StandsFor active last u
+after_cut active a last n t u is name (inl same) w = subst (λ x. StandsFor active last x) (sym same) w
+after_cut active a last n t u is name (inr b) w =
+    subst (λ o. StandsFor o last u) (sym is) (stands_cut a last t u (subst (λ m. Cut m a.len t u) name b) (subst (λ o. StandsFor o last t) is w))
+
+pub ours_after_cut : (active : Option Active) (a : Active) (last : ℕ) (n : Name) (t u : Told) → active ≡ Some a → n ≡ main last
+    → Cut n a.len t u → StandsFor active last t → IsOurs n u
+ours_after_cut active a last n t u is name b w =
+    let stood : StandsFor (Some a) last t = subst (λ o. StandsFor o last t) is w in
+    subst (λ m. IsOurs m u) (sym name) (active_cut (main last) a t u (subst (λ m. Cut m a.len t u) name b) stood.now).ours
+
+pub after_repair : (active : Option Active) (a : Active) (last : ℕ) (n : Name) (t m u : Told) → active ≡ Some a → n ≡ main last
+    → Cut n a.len t m → Synced n m u → StandsFor active last t → StandsFor (Some (record { len = a.len; torn = false })) last u
+after_repair active a last n t m u is name cut synced w =
+    stands_repaired a last t m u (subst (λ k. Cut k a.len t m) name cut) (subst (λ k. Synced k m u) name synced) (subst (λ o. StandsFor o last t) is w)
+
+pub after_create : (active : Option Active) (last : ℕ) (n : Name) (t u : Told) → IsWell t → n ≡ main (last + 1)
+    → (u ≡ t) ⊎ Made n false t u → StandsFor active last t → StandsFor active last u
+after_create active last n t u well name (inl same) w = subst (λ x. StandsFor active last x) (sym same) w
+after_create active last n t u well name (inr b) w = stands_half_begun active last t u well (subst (λ m. Made m false t u) name b) w
+
+pub after_begin : (active now : Option Active) (last next : ℕ) (n : Name) (t u : Told) → IsWell t → n ≡ main (last + 1) → now ≡ Some (record { len = 0; torn = false }) → next ≡ last + 1
+    → Made n false t u → StandsFor active last t → StandsFor now next u
+after_begin active now last next n t u well name begun number b w =
+    subst (λ o. StandsFor o next u) (sym begun) (subst (λ k. StandsFor (Some (record { len = 0; torn = false })) k u) (sym number)
+    (stands_begun active last t u well (subst (λ m. Made m false t u) name b) w))
+
+pub after_append : (active now : Option Active) (last next size : ℕ) (n : Name) (piece : List ℕ) (t u : Told) → torn_of active ≡ false → n ≡ main last
+    → now ≡ grown_of size active → size ≡ length piece → next ≡ last → Appended n (length piece) piece t u → StandsFor active last t → StandsFor now next u
+after_append active now last next size n piece t u whole name grown long number b w =
+    subst (λ o. StandsFor o next u) (sym (grown ∙ ap (λ k. grown_of k active) long)) (subst (λ k. StandsFor (grown_of (length piece) active) k u) (sym number)
+    (stands_appended active last piece t u whole (subst (λ m. Appended m (length piece) piece t u) name b) w))
+
+pub after_tear : (active now : Option Active) (last next : ℕ) (n : Name) (piece : List ℕ) (t u : Told) → n ≡ main last
+    → now ≡ with_torn true active → next ≡ last → ((k : ℕ) × Appended n k piece t u) → StandsFor active last t → StandsFor now next u
+after_tear active now last next n piece t u name torn number b w =
+    subst (λ o. StandsFor o next u) (sym torn) (subst (λ k. StandsFor (with_torn true active) k u) (sym number)
+    (stands_torn active last b.0 piece t u (subst (λ m. Appended m b.0 piece t u) name b.1) w))
