@@ -16,6 +16,7 @@ const LAST_FILE: u32 = 4_294_967_294;
 
 /// The data files of a store. One of them may be active: texts are appended to it until the next
 /// would pass the limit, and then the store rolls to a new one.
+#[derive(Drop)]
 pub struct Files<D: Disk> {
     pub disk: D,
     pub catalog: Catalog,

@@ -9,3 +9,6 @@ mod refusals;
 pub use catalog::{Active, Catalog};
 pub use files::Files;
 pub use refusals::RollError;
+
+#[cfg(test)]
+mod tests;
