@@ -1,5 +1,5 @@
 //! A disk: a directory of named files that are appended to.
-ghost use Rattle.std.specs.Prelude.{◌≡◌, ◌≤◌, ◌⊎◌, Bool, true, false, List, [], ℕ, length, is_ok, IsTrue, IsOk, IfOk, OnOk, OnErr};
+ghost use Rattle.std.specs.Prelude.{◌≡◌, ◌≤◌, ◌⊎◌, Bool, true, false, List, [], ℕ, length, is_ok, IsTrue, IsOk, IfOk, OnOk, OnErr, IsErrOf};
 ghost use Rattle.bk_disk.specs.Causes.{IsCaused, HasCause, bumped};
 ghost use Rattle.bk_disk.specs.Names.{same};
 ghost use Rattle.bk_disk.specs.Told.{Told, listing, bytes_of, IsOurs, IsLent, IsAbsent, IsOneThere, CutsWithin, IsWithin, range_of, IsWell};
@@ -21,7 +21,7 @@ pub struct Listed {
 /// holds, what a stop may leave of it now and at each moment before, and what was asked of it.
 /// A moment is the time between two changes that a stop can tell.
 ///
-/// The disk keeps its allocator. `Memory` is want of memory, and changes nothing.
+/// The disk keeps its allocator. `Memory` is want of memory, and what is told stays as it was.
 pub trait Disk {
     ghost use Rattle.bk_base.specs.declared.names.Name.{Name};
 
@@ -60,12 +60,15 @@ pub trait Disk {
     /// or of a name that isn't there, is `Failed`.
     fn view(&mut self, name: Name, at: u64, len: u64) -> Result<Self::View, DiskError>
         ensures within { IsTrue tells → OnOk result (IsWithin name at len (told self.old).image) }
-        ensures bytes { IsTrue tells → IfOk result (λ v. Self.View.left v ≡ range_of name at len (told self.old).image) }
+        ensures bytes { IsTrue tells → IfOk result (λ v. Self.View.left v
+            ≡ range_of name at len (told self.old).image) }
         ensures rest { IfOk result (λ v. Self.View.rest v ≡ len) }
         ensures told { IsTrue tells → told self.new ≡ viewed (is_ok result) name at len (told self.old) }
+        ensures memory { IsTrue tells → IsErrOf result DiskError.Memory → told self.new ≡ told self.old }
         ensures rooms { (n : Name) → room self.old n ≤ room self.new n }
         ensures cause { HasCause (faults self.old) (faults self.new) result }
-        ensures views { IfOk result (λ v. weak_views self.new ≡ bumped (Self.View.weak v) (weak_views self.old)) }
+        ensures views { IfOk result (λ v. weak_views self.new
+            ≡ bumped (Self.View.weak v) (weak_views self.old)) }
         ensures no_view { OnErr result (weak_views self.new ≡ weak_views self.old) }
         ensures outs { weak_outs self.new ≡ weak_outs self.old };
 
@@ -73,7 +76,9 @@ pub trait Disk {
     fn create(&mut self, name: Name) -> Result<(), DiskError>
         requires { IsTrue tells → bytes_of name (told self.old).image ≡ [] }
         ensures created { IsTrue tells → OnOk result (Made name false (told self.old) (told self.new)) }
-        ensures err { IsTrue tells → OnErr result ((told self.new ≡ told self.old) ⊎ Made name false (told self.old) (told self.new)) }
+        ensures err { IsTrue tells → OnErr result ((told self.new ≡ told self.old)
+            ⊎ Made name false (told self.old) (told self.new)) }
+        ensures memory { IsTrue tells → IsErrOf result DiskError.Memory → told self.new ≡ told self.old }
         ensures rooms { (n : Name) → room self.old n ≤ room self.new n }
         ensures cause { HasCause (faults self.old) (faults self.new) result }
         ensures views { weak_views self.new ≡ weak_views self.old }
@@ -95,8 +100,10 @@ pub trait Disk {
     fn append(&mut self, name: Name, piece: &[u8]) -> Result<(), Failed>
         requires ours { IsTrue tells → IsOurs name (told self.old) }
         requires room { length piece.now ≤ room self.old name }
-        ensures appended { IsTrue tells → OnOk result (Appended name (length piece.now) piece.now (told self.old) (told self.new)) }
-        ensures err { IsTrue tells → OnErr result ((n : ℕ) × Appended name n piece.now (told self.old) (told self.new)) }
+        ensures appended { IsTrue tells → OnOk result (Appended name (length piece.now) piece.now
+            (told self.old) (told self.new)) }
+        ensures err { IsTrue tells → OnErr result ((n : ℕ) × Appended name n piece.now
+            (told self.old) (told self.new)) }
         ensures rooms { (n : Name) → same n name ≡ false → room self.old n ≤ room self.new n }
         ensures cause { IsCaused (faults self.old) (faults self.new) result }
         ensures views { weak_views self.new ≡ weak_views self.old }
@@ -108,7 +115,8 @@ pub trait Disk {
         requires ours { IsTrue tells → IsOurs name (told self.old) }
         requires within { IsTrue tells → CutsWithin name len (told self.old) }
         ensures shorter { IsTrue tells → OnOk result (Cut name len (told self.old) (told self.new)) }
-        ensures err { IsTrue tells → OnErr result ((told self.new ≡ told self.old) ⊎ Cut name len (told self.old) (told self.new)) }
+        ensures err { IsTrue tells → OnErr result ((told self.new ≡ told self.old)
+            ⊎ Cut name len (told self.old) (told self.new)) }
         ensures rooms { (n : Name) → room self.old n ≤ room self.new n }
         ensures cause { IsCaused (faults self.old) (faults self.new) result }
         ensures views { weak_views self.new ≡ weak_views self.old }
@@ -133,11 +141,14 @@ pub trait Disk {
         ensures name { IfOk result (λ out. Self.Out.name out ≡ name) }
         ensures empty { IsTrue tells → IfOk result (λ out. Self.Out.bytes out ≡ []) }
         ensures unsynced { IsTrue tells → IfOk result (λ out. Self.Out.synced out ≡ 0) }
-        ensures err { IsTrue tells → OnErr result ((told self.new ≡ told self.old) ⊎ Made name true (told self.old) (told self.new)) }
+        ensures err { IsTrue tells → OnErr result ((told self.new ≡ told self.old)
+            ⊎ Made name true (told self.old) (told self.new)) }
+        ensures memory { IsTrue tells → IsErrOf result DiskError.Memory → told self.new ≡ told self.old }
         ensures rooms { (n : Name) → room self.old n ≤ room self.new n }
         ensures cause { HasCause (faults self.old) (faults self.new) result }
         ensures views { weak_views self.new ≡ weak_views self.old }
-        ensures outs { IfOk result (λ out. weak_outs self.new ≡ bumped (Self.Out.weak out) (weak_outs self.old)) }
+        ensures outs { IfOk result (λ out. weak_outs self.new
+            ≡ bumped (Self.Out.weak out) (weak_outs self.old)) }
         ensures no_out { OnErr result (weak_outs self.new ≡ weak_outs self.old) };
 
     /// Takes a file back that was lent under its name and is synced whole. It takes no memory and
@@ -145,7 +156,8 @@ pub trait Disk {
     fn adopt(&mut self, out: Self::Out)
         requires lent { IsTrue tells → IsLent (Self.Out.name out) (told self.old) }
         requires synced { IsTrue tells → Self.Out.synced out ≡ length (Self.Out.bytes out) }
-        ensures returned { IsTrue tells → Returned (Self.Out.name out) (Self.Out.bytes out) (told self.old) (told self.new) }
+        ensures returned { IsTrue tells → Returned (Self.Out.name out) (Self.Out.bytes out)
+            (told self.old) (told self.new) }
         ensures rooms { (n : Name) → room self.old n ≤ room self.new n }
         ensures faults { faults self.new ≡ faults self.old }
         ensures views { weak_views self.new ≡ weak_views self.old }
@@ -156,8 +168,11 @@ pub trait Disk {
     fn rename(&mut self, from: Name, to: Name) -> Result<(), DiskError>
         requires { IsTrue tells → IsOneThere from to (told self.old).image }
         ensures renamed { IsTrue tells → OnOk result (Renamed from to (told self.old) (told self.new)) }
-        ensures err { IsTrue tells → OnErr result ((told self.new ≡ told self.old) ⊎ Renamed from to (told self.old) (told self.new)) }
-        ensures rooms { (n : Name) → same n from ≡ false → same n to ≡ false → room self.old n ≤ room self.new n }
+        ensures err { IsTrue tells → OnErr result ((told self.new ≡ told self.old)
+            ⊎ Renamed from to (told self.old) (told self.new)) }
+        ensures memory { IsTrue tells → IsErrOf result DiskError.Memory → told self.new ≡ told self.old }
+        ensures rooms { (n : Name) → same n from ≡ false → same n to ≡ false
+            → room self.old n ≤ room self.new n }
         ensures cause { HasCause (faults self.old) (faults self.new) result }
         ensures views { weak_views self.new ≡ weak_views self.old }
         ensures outs { weak_outs self.new ≡ weak_outs self.old };
@@ -166,7 +181,9 @@ pub trait Disk {
     /// it is done or not.
     fn remove(&mut self, name: Name) -> Result<(), DiskError>
         ensures removed { IsTrue tells → OnOk result (Removed name (told self.old) (told self.new)) }
-        ensures err { IsTrue tells → OnErr result ((told self.new ≡ told self.old) ⊎ Removed name (told self.old) (told self.new)) }
+        ensures err { IsTrue tells → OnErr result ((told self.new ≡ told self.old)
+            ⊎ Removed name (told self.old) (told self.new)) }
+        ensures memory { IsTrue tells → IsErrOf result DiskError.Memory → told self.new ≡ told self.old }
         ensures rooms { (n : Name) → same n name ≡ false → room self.old n ≤ room self.new n }
         ensures cause { HasCause (faults self.old) (faults self.new) result }
         ensures views { weak_views self.new ≡ weak_views self.old }

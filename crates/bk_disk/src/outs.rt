@@ -31,7 +31,8 @@ pub trait Out {
     /// the end.
     fn append(&mut self, piece: &[u8]) -> Result<(), DiskError>
         ensures appended { IsTrue tells → OnOk result (bytes self.new ≡ bytes self.old ++ piece.now) }
-        ensures err { IsTrue tells → OnErr result ((n : ℕ) × (bytes self.new ≡ bytes self.old ++ take n piece.now)) }
+        ensures err { IsTrue tells → OnErr result ((n : ℕ)
+            × (bytes self.new ≡ bytes self.old ++ take n piece.now)) }
         ensures synced { IsTrue tells → synced self.new ≡ synced self.old }
         ensures name { name self.new ≡ name self.old }
         ensures cause { HasCause (faults self.old) (faults self.new) result }

@@ -20,7 +20,8 @@ pub trait Sink {
     fn write(&mut self, piece: &[u8]) -> Result<usize, Failed>
         ensures within { IfOk result (λ n. n ≤ length piece.now) }
         ensures some { IfOk result (λ n. 0 < length piece.now → 0 < n) }
-        ensures wrote { IsTrue tells → IfOk result (λ n. written self.new ≡ written self.old ++ take n piece.now) }
+        ensures wrote { IsTrue tells → IfOk result (λ n. written self.new
+            ≡ written self.old ++ take n piece.now) }
         ensures kept { IsTrue tells → OnErr result (written self.new ≡ written self.old) }
         ensures cause { IsCaused (faults self.old) (faults self.new) result };
 }

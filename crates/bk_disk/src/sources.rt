@@ -24,8 +24,10 @@ pub trait Source {
     fn read(&mut self, into: &mut [u8]) -> Result<usize, Failed>
         ensures within { IfOk result (λ n. n ≤ length into.new) }
         ensures whole { IsTrue tells → whole self.new ≡ whole self.old }
-        ensures took { IsTrue tells → IfOk result (λ n. Takes (whole self.old) (taken self.old) (taken self.new) n into.new) }
-        ensures ended { IsTrue tells → IfOk result (λ n. 0 < length into.new → n ≡ 0 → taken self.old ≡ length (whole self.old)) }
+        ensures took { IsTrue tells → IfOk result (λ n. Takes (whole self.old) (taken self.old)
+            (taken self.new) n into.new) }
+        ensures ended { IsTrue tells → IfOk result (λ n. 0 < length into.new → n ≡ 0
+            → taken self.old ≡ length (whole self.old)) }
         ensures kept { IsTrue tells → OnErr result (taken self.new ≡ taken self.old) }
         ensures cause { IsCaused (faults self.old) (faults self.new) result };
 }

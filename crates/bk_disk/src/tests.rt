@@ -166,7 +166,8 @@ fn store<D: Disk>(disk: &mut D, name: Name, bytes: &[u8]) -> Result<(), DiskErro
 
 // The first bytes of a file, as many as `into` has.
 fn load<D: Disk>(disk: &mut D, name: Name, into: &mut [u8]) -> Result<usize, DiskError>
-    ensures cause { IsErrOf result DiskError.Failed → Rose (D.faults disk.old) (D.faults disk.new) ⊎ Rose (D.weak_views disk.old) (D.weak_views disk.new) }
+    ensures cause { IsErrOf result DiskError.Failed → Rose (D.faults disk.old) (D.faults disk.new)
+        ⊎ Rose (D.weak_views disk.old) (D.weak_views disk.new) }
 {
     let mut view = disk.view(name, 0, into.len() as u64)?;
     Ok(view.read(into)?)

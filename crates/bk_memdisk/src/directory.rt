@@ -72,8 +72,8 @@ impl Directory {
     // What a stop leaves by the choice, synced whole and with no name lent.
     pub(crate) fn crash(&self, choice: &Choice) -> Result<Directory, AllocError>
         requires { IsOnce (names self.now.told.image) }
-        ensures image { IfOk result (λ after. after.told.image ≡ crashed choice.now.keep choice.now.flips.items
-            self.now.told.fronts self.now.told.image) }
+        ensures image { IfOk result (λ after. after.told.image
+            ≡ crashed choice.now.keep choice.now.flips.items self.now.told.fronts self.now.told.image) }
         ensures may_leave { IfOk result (λ after. MayLeave self.now.told.fronts after.told.image) }
         ensures synced { IfOk result (λ after. IsSynced after.told) }
     {

@@ -192,6 +192,7 @@ impl Disk for MemDisk {
         ensures bytes { IfOk result (λ view. view.left ≡ range_of name at len (told_by self.old).image) }
         ensures rest { IfOk result (λ view. length view.left ≡ len) }
         ensures told { told_by self.new ≡ viewed (is_ok result) name at len (told_by self.old) }
+        ensures memory { IsErrOf result DiskError.Memory → told_by self.new ≡ told_by self.old }
         ensures rooms { (n : Name) → room_of self.old.directory n ≤ room_of self.new.directory n }
         ensures cause { HasCause (faults_of self.old) (faults_of self.new) result }
         ensures views { IfOk result (λ view. self.new.weak_views ≡ bumped view.weak self.old.weak_views) }
@@ -221,6 +222,7 @@ impl Disk for MemDisk {
         ensures created { OnOk result (Made name false (told_by self.old) (told_by self.new)) }
         ensures err { OnErr result ((told_by self.new ≡ told_by self.old)
             ⊎ Made name false (told_by self.old) (told_by self.new)) }
+        ensures memory { IsErrOf result DiskError.Memory → told_by self.new ≡ told_by self.old }
         ensures rooms { (n : Name) → room_of self.old.directory n ≤ room_of self.new.directory n }
         ensures cause { HasCause (faults_of self.old) (faults_of self.new) result }
         ensures views { self.new.weak_views ≡ self.old.weak_views }
@@ -250,7 +252,8 @@ impl Disk for MemDisk {
         requires room { length piece.now ≤ room_of self.old.directory name }
         ensures appended { OnOk result (Appended name (length piece.now) piece.now (told_by self.old)
             (told_by self.new)) }
-        ensures err { OnErr result ((n : ℕ) × Appended name n piece.now (told_by self.old) (told_by self.new)) }
+        ensures err { OnErr result ((n : ℕ) × Appended name n piece.now (told_by self.old)
+            (told_by self.new)) }
         ensures rooms { (n : Name) → same n name ≡ false → room_of self.old.directory n
             ≤ room_of self.new.directory n }
         ensures cause { IsCaused (faults_of self.old) (faults_of self.new) result }
@@ -324,6 +327,7 @@ impl Disk for MemDisk {
         ensures out { IfOk result (λ out. out ≡ record { name = name; bytes = []; synced = 0 }) }
         ensures err { OnErr result ((told_by self.new ≡ told_by self.old)
             ⊎ Made name true (told_by self.old) (told_by self.new)) }
+        ensures memory { IsErrOf result DiskError.Memory → told_by self.new ≡ told_by self.old }
         ensures rooms { (n : Name) → room_of self.old.directory n ≤ room_of self.new.directory n }
         ensures cause { HasCause (faults_of self.old) (faults_of self.new) result }
         ensures views { self.new.weak_views ≡ self.old.weak_views }
@@ -355,6 +359,7 @@ impl Disk for MemDisk {
         ensures renamed { OnOk result (Renamed from to (told_by self.old) (told_by self.new)) }
         ensures err { OnErr result ((told_by self.new ≡ told_by self.old)
             ⊎ Renamed from to (told_by self.old) (told_by self.new)) }
+        ensures memory { IsErrOf result DiskError.Memory → told_by self.new ≡ told_by self.old }
         ensures rooms { (n : Name) → same n from ≡ false → same n to ≡ false → room_of self.old.directory n
             ≤ room_of self.new.directory n }
         ensures cause { HasCause (faults_of self.old) (faults_of self.new) result }
@@ -378,6 +383,7 @@ impl Disk for MemDisk {
         ensures removed { OnOk result (Removed name (told_by self.old) (told_by self.new)) }
         ensures err { OnErr result ((told_by self.new ≡ told_by self.old)
             ⊎ Removed name (told_by self.old) (told_by self.new)) }
+        ensures memory { IsErrOf result DiskError.Memory → told_by self.new ≡ told_by self.old }
         ensures rooms { (n : Name) → same n name ≡ false → room_of self.old.directory n
             ≤ room_of self.new.directory n }
         ensures cause { HasCause (faults_of self.old) (faults_of self.new) result }

@@ -70,7 +70,8 @@ impl Sink for MemSink {
 
     fn write(&mut self, piece: &[u8]) -> Result<usize, Failed>
         ensures failed { IsErr result ↔ (IsDue self.old.due ⊎ (length self.old.written ≡ self.old.room)) }
-        ensures count { IfOk result (λ n. n ≡ min (length piece.now) (self.old.room - length self.old.written)) }
+        ensures count { IfOk result (λ n. n ≡ min (length piece.now)
+            (self.old.room - length self.old.written)) }
         ensures some { IfOk result (λ n. 0 < length piece.now → 0 < n) }
         ensures wrote { IfOk result (λ n. self.new.written ≡ self.old.written ++ take n piece.now) }
         ensures kept { OnErr result (self.new.written ≡ self.old.written) }
