@@ -22,6 +22,15 @@ views_of d = d.views
 abbrev pub faults_of : MemDisk → ℕ
 faults_of d = d.faults
 
+abbrev pub weak_views_of : MemDisk → ℕ
+weak_views_of d = d.weak_views
+
+abbrev pub SamePlans : MemDisk → MemDisk → Type 0
+SamePlans old new = (calls_of new ≡ calls_of old) × (views_of new ≡ views_of old)
+
+abbrev pub SameCounts : MemDisk → MemDisk → Type 0
+SameCounts old new = (faults_of new ≡ faults_of old) × (weak_views_of new ≡ weak_views_of old)
+
 -- A call fails exactly where it was chosen, and is then done where its effect isn't 0. Want of
 -- memory leaves all as it was.
 abbrev pub Answers : {T : Type 0} → Option ℕ → Result T DiskError → Type 0 → Type 0 → Type 0

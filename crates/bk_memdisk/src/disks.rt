@@ -1,5 +1,5 @@
 //! A disk in memory.
-ghost use Rattle.std.specs.Prelude.{◌≡◌, ◌≤◌, ◌⊎◌, ◌↔◌, ℕ, min, true, false, IsTrue, IsSome, IfSome, is_some, is_ok, IsErr, IsErrOf, [], length, IfOk, OnOk, OnErr, option_copied};
+ghost use Rattle.std.specs.Prelude.{◌≡◌, ◌≤◌, ◌⊎◌, ◌↔◌, ℕ, min, true, false, IsTrue, IsSome, IfSome, is_some, is_ok, IsOk, IsErr, IsErrOf, [], length, IfOk, OnOk, OnErr, option_copied};
 ghost use Rattle.bk_disk.specs.Causes.{Rose};
 ghost use Rattle.bk_disk.specs.Well.{is_well};
 
@@ -31,7 +31,7 @@ impl MemDisk {
     ghost use Rattle.bk_memdisk.specs.Contents.{Placed};
     ghost use Rattle.bk_memdisk.specs.Crash.{crashed};
     ghost use Rattle.bk_memdisk.specs.Plans.{nothing_chosen, chosen, fused};
-    ghost use Rattle.bk_memdisk.specs.Disk.{told_by, calls_of, views_of, faults_of};
+    ghost use Rattle.bk_memdisk.specs.Disk.{told_by, calls_of, views_of, faults_of, weak_views_of, SameCounts};
 
     /// An empty disk. Nothing is set to fail.
     pub fn new(alloc: Global) -> MemDisk
@@ -39,6 +39,7 @@ impl MemDisk {
         ensures calls { calls_of result ≡ nothing_chosen }
         ensures views { views_of result ≡ nothing_chosen }
         ensures faults { faults_of result ≡ 0 }
+        ensures weak_views { weak_views_of result ≡ 0 }
     {
         MemDisk {
             alloc,
@@ -55,6 +56,7 @@ impl MemDisk {
         ensures ok { OnOk result (Placed name bytes.now (told_by self.old) (told_by self.new)) }
         ensures err { OnErr result (told_by self.new ≡ told_by self.old) }
         ensures plans { (calls_of self.new ≡ calls_of self.old) × (views_of self.new ≡ views_of self.old) }
+        ensures counts { SameCounts self.old self.new }
     {
         let Ok(kept) = bytes.to_vec(self.alloc) else {
             return Err(Memory);
@@ -78,6 +80,7 @@ impl MemDisk {
         ensures synced { IfOk result (λ after. IsSynced (told_by after)) }
         ensures nothing_fails { IfOk result (λ after. (calls_of after ≡ nothing_chosen)
             × (views_of after ≡ nothing_chosen)) }
+        ensures counts { IfOk result (λ after. (faults_of after ≡ 0) × (weak_views_of after ≡ 0)) }
     {
         let Ok(directory) = self.directory.crash(choice) else {
             return Err(Memory);
@@ -105,6 +108,7 @@ impl MemDisk {
         ensures ok { OnOk result (calls_of self.new ≡ chosen nth effect (calls_of self.old)) }
         ensures err { OnErr result (calls_of self.new ≡ calls_of self.old) }
         ensures others { (told_by self.new ≡ told_by self.old) × (views_of self.new ≡ views_of self.old) }
+        ensures counts { SameCounts self.old self.new }
     {
         self.calls.choose(nth, effect).map_err(|_| Memory)
     }
@@ -114,6 +118,7 @@ impl MemDisk {
         ensures ok { OnOk result (views_of self.new ≡ chosen nth 0 (views_of self.old)) }
         ensures err { OnErr result (views_of self.new ≡ views_of self.old) }
         ensures others { (told_by self.new ≡ told_by self.old) × (calls_of self.new ≡ calls_of self.old) }
+        ensures counts { SameCounts self.old self.new }
     {
         self.views.choose(nth, 0).map_err(|_| Memory)
     }
@@ -123,6 +128,7 @@ impl MemDisk {
     pub fn fuse(&mut self, calls: u64, effect: u64)
         ensures fused { calls_of self.new ≡ fused calls effect (calls_of self.old) }
         ensures others { (told_by self.new ≡ told_by self.old) × (views_of self.new ≡ views_of self.old) }
+        ensures counts { SameCounts self.old self.new }
     {
         self.calls.fuse(calls, effect);
     }
@@ -142,11 +148,11 @@ impl Disk for MemDisk {
     ghost use Rattle.std.specs.Prelude.{refl};
     ghost use Rattle.bk_base.specs.declared.names.Name.{Name};
     ghost use Rattle.bk_memdisk.specs.Contents.{room_of};
-    ghost use Rattle.bk_memdisk.specs.Disk.{told_by, calls_of, views_of, faults_of, Answers, Fails};
+    ghost use Rattle.bk_memdisk.specs.Disk.{told_by, calls_of, views_of, faults_of, SamePlans, Answers, Fails};
     ghost use Rattle.bk_memdisk.specs.Plans.{next_effect, one_later};
     ghost use Rattle.bk_disk.specs.Names.{same};
-    ghost use Rattle.bk_disk.specs.Told.{bytes_of, listing, range_of, IsWithin, IsOurs, IsAbsent, IsOneThere, CutsWithin};
-    ghost use Rattle.bk_disk.specs.Calls.{Made, Appended, Cut, Synced, Removed, Renamed, viewed};
+    ghost use Rattle.bk_disk.specs.Told.{bytes_of, listing, range_of, IsWithin, IsOurs, IsLent, IsAbsent, IsOneThere, CutsWithin};
+    ghost use Rattle.bk_disk.specs.Calls.{Made, Appended, Cut, Synced, Removed, Renamed, Returned, viewed};
     ghost use Rattle.bk_disk.specs.Causes.{IsCaused, HasCause, bumped};
     ghost use Rattle.bk_disk.proofs.Unique.{from_test};
 
@@ -180,6 +186,7 @@ impl Disk for MemDisk {
         ensures views { self.new.weak_views ≡ self.old.weak_views }
         ensures failed { IsErrOf result DiskError.Failed ↔ IsSome (next_effect (calls_of self.old)) }
         ensures counted { calls_of self.new ≡ one_later (calls_of self.old) }
+        ensures kept_views { views_of self.new ≡ views_of self.old }
     {
         if self.calls.next().is_some() {
             return Err(fault(&mut self.faults).into());
@@ -199,6 +206,7 @@ impl Disk for MemDisk {
         ensures no_view { OnErr result (self.new.weak_views ≡ self.old.weak_views) }
         ensures weak { IfOk result (λ view. view.weak ≡ is_some (next_effect (views_of self.old))) }
         ensures counted_views { OnOk result (views_of self.new ≡ one_later (views_of self.old)) }
+        ensures kept_views { OnErr result (views_of self.new ≡ views_of self.old) }
         ensures failed { IsErrOf result DiskError.Failed ↔ (IsSome (next_effect (calls_of self.old))
             ⊎ ¬ (IsWithin name at len (told_by self.old).image)) }
         ensures counted { calls_of self.new ≡ one_later (calls_of self.old) }
@@ -230,6 +238,7 @@ impl Disk for MemDisk {
             (Made name false (told_by self.old) (told_by self.new))
             (told_by self.new ≡ told_by self.old) }
         ensures counted { calls_of self.new ≡ one_later (calls_of self.old) }
+        ensures kept_views { views_of self.new ≡ views_of self.old }
     {
         match self.calls.next() {
             None => Ok(self.directory.create(name, false)?),
@@ -241,7 +250,16 @@ impl Disk for MemDisk {
         }
     }
 
-    fn ready(&mut self, name: Name, bytes: u64) -> Result<(), Memory> {
+    fn ready(&mut self, name: Name, bytes: u64) -> Result<(), Memory>
+        requires { IsOurs name (told_by self.old) }
+        ensures room { OnOk result (bytes ≤ room_of self.new.directory name) }
+        ensures enough { bytes ≤ room_of self.old.directory name → IsOk result }
+        ensures told { told_by self.new ≡ told_by self.old }
+        ensures rooms { (n : Name) → room_of self.old.directory n ≤ room_of self.new.directory n }
+        ensures faults { faults_of self.new ≡ faults_of self.old }
+        ensures views { self.new.weak_views ≡ self.old.weak_views }
+        ensures plans { SamePlans self.old self.new }
+    {
         self.directory
             .ready(name, bytes as usize)
             .map_err(|_| Memory)
@@ -263,6 +281,7 @@ impl Disk for MemDisk {
             (λ effect. Appended name (min effect (length piece.now)) piece.now
             (told_by self.old) (told_by self.new)) }
         ensures counted { calls_of self.new ≡ one_later (calls_of self.old) }
+        ensures kept_views { views_of self.new ≡ views_of self.old }
     {
         match self.calls.next() {
             None => {
@@ -290,6 +309,7 @@ impl Disk for MemDisk {
             (Cut name len (told_by self.old) (told_by self.new))
             (told_by self.new ≡ told_by self.old) }
         ensures counted { calls_of self.new ≡ one_later (calls_of self.old) }
+        ensures kept_views { views_of self.new ≡ views_of self.old }
     {
         match self.calls.next() {
             None => {
@@ -313,6 +333,7 @@ impl Disk for MemDisk {
         ensures views { self.new.weak_views ≡ self.old.weak_views }
         ensures failed { IsErr result ↔ IsSome (next_effect (calls_of self.old)) }
         ensures counted { calls_of self.new ≡ one_later (calls_of self.old) }
+        ensures kept_views { views_of self.new ≡ views_of self.old }
     {
         if self.calls.next().is_some() {
             return Err(fault(&mut self.faults));
@@ -335,6 +356,7 @@ impl Disk for MemDisk {
             (Made name true (told_by self.old) (told_by self.new))
             (told_by self.new ≡ told_by self.old) }
         ensures counted { calls_of self.new ≡ one_later (calls_of self.old) }
+        ensures kept_views { views_of self.new ≡ views_of self.old }
     {
         match self.calls.next() {
             None => {
@@ -349,7 +371,15 @@ impl Disk for MemDisk {
         }
     }
 
-    fn adopt(&mut self, out: MemOut) {
+    fn adopt(&mut self, out: MemOut)
+        requires lent { IsLent out.name (told_by self.old) }
+        requires synced { out.synced ≡ length out.bytes }
+        ensures returned { Returned out.name out.bytes (told_by self.old) (told_by self.new) }
+        ensures rooms { (n : Name) → room_of self.old.directory n ≤ room_of self.new.directory n }
+        ensures faults { faults_of self.new ≡ faults_of self.old }
+        ensures views { self.new.weak_views ≡ self.old.weak_views }
+        ensures plans { SamePlans self.old self.new }
+    {
         let (name, bytes, copy) = out.into_parts();
         self.directory.adopt(name, bytes, copy);
     }
@@ -368,6 +398,7 @@ impl Disk for MemDisk {
             (Renamed from to (told_by self.old) (told_by self.new))
             (told_by self.new ≡ told_by self.old) }
         ensures counted { calls_of self.new ≡ one_later (calls_of self.old) }
+        ensures kept_views { views_of self.new ≡ views_of self.old }
     {
         match self.calls.next() {
             None => Ok(self.directory.rename(from, to)?),
@@ -392,6 +423,7 @@ impl Disk for MemDisk {
             (Removed name (told_by self.old) (told_by self.new))
             (told_by self.new ≡ told_by self.old) }
         ensures counted { calls_of self.new ≡ one_later (calls_of self.old) }
+        ensures kept_views { views_of self.new ≡ views_of self.old }
     {
         match self.calls.next() {
             None => Ok(self.directory.remove(name)?),

@@ -1,5 +1,7 @@
 //! A view of a disk in memory.
-ghost use Rattle.std.specs.Prelude.{◌≡◌, ◌-◌, false, [], drop, length};
+ghost use Rattle.std.specs.Prelude.{◌≡◌, ◌+◌, ◌-◌, ◌<◌, ◌≤◌, ◌↔◌, false, [], drop, length, IsTrue, IsOk, IsErr, IfOk, OnErr};
+ghost use Rattle.bk_disk.specs.Causes.{IsCaused};
+ghost use Rattle.bk_disk.specs.Streams.{Gives};
 
 use bk_disk::{Failed, View};
 use std::marker::Model;
@@ -50,7 +52,18 @@ impl View for MemView {
 
     ghost weak = { λ v. v.weak };
 
-    fn read(&mut self, into: &mut [u8]) -> Result<usize, Failed> {
+    fn read(&mut self, into: &mut [u8]) -> Result<usize, Failed>
+        ensures failed { IsErr result ↔ IsTrue self.old.weak }
+        ensures within { IfOk result (λ n. n ≤ length into.new) }
+        ensures some { IfOk result (λ n. 0 < length self.old.left → 0 < length into.new → 0 < n) }
+        ensures rest { IfOk result (λ n. length self.old.left ≡ n + length self.new.left) }
+        ensures bytes { IfOk result (λ n. Gives self.old.left self.new.left n into.new) }
+        ensures kept { OnErr result (self.new.left ≡ self.old.left) }
+        ensures cause { IsCaused self.old.faults self.new.faults result }
+        ensures strong { self.old.weak ≡ false → IsOk result }
+        ensures same_faults { self.old.weak ≡ false → self.new.faults ≡ self.old.faults }
+        ensures weak { self.new.weak ≡ self.old.weak }
+    {
         if self.weak {
             self.faults = self.faults.saturating_add(1);
             return Err(Failed);
