@@ -5,6 +5,7 @@ ghost use Rattle.bk_disk.specs.Causes.{IsCaused, HasCause, Rose, bumped};
 ghost use Rattle.bk_disk.specs.Told.{IsAbsent, IsWithin, range_of};
 ghost use Rattle.bk_base.specs.declared.names.Name.{Name};
 ghost use Rattle.bk_files.specs.Catalog.{Begins, Grows, Same, edited, is_due, len_of, main, row_of, torn_of, with_counts, with_torn};
+ghost use Rattle.bk_files.specs.Rows.{AreSealed, IsRecord};
 ghost use Rattle.bk_files.specs.Files.{HalfRepaired, HalfRolled, Repaired, Rolled, Settled, Stands, Synchronized};
 
 use crate::catalog::{Active, Catalog, name_of};
@@ -25,7 +26,8 @@ pub struct Files<D: Disk> {
 impl<D: Disk> Files<D> {
     /// The files of a disk, all of them sealed. The rows are in order of id, up to `last`.
     pub fn new(disk: D, rows: Vec<Row>, last: FileId, max_file: u32) -> Files<D>
-        requires { IsTrue D.tells → (n : Name) → last.0 < n.id → IsAbsent n (D.told disk).image }
+        requires free { IsTrue D.tells → (n : Name) → last.0 < n.id → IsAbsent n (D.told disk).image }
+        requires rows { IsTrue D.tells → AreSealed 1 (last.0 + 1) rows.items (D.told disk) }
         ensures disk { result.disk ≡ disk }
         ensures rows { result.catalog.rows ≡ rows }
         ensures active { result.catalog.active ≡ None }
@@ -106,6 +108,7 @@ impl<D: Disk> Files<D> {
         requires whole { torn_of self.old.catalog.active ≡ false }
         requires due { is_due (length text.now) self.old.catalog ≡ false }
         requires room { length text.now ≤ D.room self.old.disk (main self.old.catalog.last.0) }
+        requires text { IsRecord text.now }
         ensures place { IfOk result (λ at. at ≡ len_of self.old.catalog.active) }
         ensures ok { OnOk result (Grows (length text.now) self.old.catalog self.new.catalog) }
         ensures err { OnErr result (self.new.catalog ≡ record self.old.catalog { active = with_torn true self.old.catalog.active }) }
@@ -224,6 +227,8 @@ impl<D: Disk> Files<D> {
 
     /// Sets the two counts of a file's row.
     pub fn count(&mut self, file: FileId, live: u64, refs: u64)
+        requires { IsTrue D.tells → Stands self.old.catalog (D.told self.old.disk) }
+        ensures stands { IsTrue D.tells → Stands self.new.catalog (D.told self.new.disk) }
         ensures disk { self.new.disk ≡ self.old.disk }
         ensures rows { self.new.catalog.rows.items ≡ edited file.0 (with_counts live refs) self.old.catalog.rows.items }
         ensures active { self.new.catalog.active ≡ self.old.catalog.active }
