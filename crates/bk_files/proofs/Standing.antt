@@ -21,7 +21,7 @@ use Rattle.bk_files.specs.declared.catalog.Catalog.{Catalog}
 use Rattle.bk_files.specs.Catalog.{Begins, Grows, due_of, edited, grown_of, is_due, len_of, main, new_row, sealed, torn_of, with_counts, with_len, with_torn}
 use Rattle.bk_files.specs.Rows.{AreRows, AreSealed, IsRecord}
 use Rattle.bk_files.specs.Files.{IsActive, IsUnused, Stands, StandsFor}
-use Rattle.bk_files.proofs.Rows.{Kept, kept_appended, kept_cut, kept_made, kept_synced, rows_begun, rows_counted, rows_grown, rows_kept, rows_sealed, rows_still}
+use Rattle.bk_files.proofs.Rows.{kept_appended, kept_cut, kept_made, kept_synced, rows_begun, rows_counted, rows_grown, rows_kept, rows_sealed, rows_still}
 
 abbrev IsSafeTo : ℕ → Option Front → Type 0
 IsSafeTo len o = IfSome o (λ f. length f.safe ≤ len)

@@ -29,7 +29,8 @@ pub record IsRow (n : Name) (state : RowState) (known : List ℕ) (r : Row) (t :
 abbrev pub AreSealed : ℕ → ℕ → List Row → Told → Type 0
 AreSealed low high [] t = Unit {0}
 AreSealed low high (r ∷ rs) t =
-    (low ≤ r.id.0) × (r.id.0 < high) × IsRow (main r.id.0) Sealed (bytes_of (main r.id.0) t.image) r t × AreSealed (r.id.0 + 1) high rs t
+    (low ≤ r.id.0) × (r.id.0 < high) × IsRow (main r.id.0) Sealed (bytes_of (main r.id.0) t.image) r t
+    × AreSealed (r.id.0 + 1) high rs t
 
 -- The row of the active file. Its known bytes are all records; a failed append may have left more.
 pub record IsActiveRow (a : Active) (last : ℕ) (r : Row) (t : Told) : Type 0 where
@@ -43,4 +44,5 @@ pub record IsActiveRow (a : Active) (last : ℕ) (r : Row) (t : Told) : Type 0 w
 abbrev pub AreRows : Option Active → ℕ → List Row → Told → Type 0
 AreRows None last rows t = AreSealed 1 (last + 1) rows t
 AreRows (Some a) last rows t =
-    (before : List Row) × (r : Row) × (rows ≡ before ++ r ∷ []) × AreSealed 1 last before t × IsActiveRow a last r t
+    (before : List Row) × (r : Row) × (rows ≡ before ++ r ∷ [])
+    × AreSealed 1 last before t × IsActiveRow a last r t

@@ -1,5 +1,4 @@
 use Rattle.std.specs.Prelude.{is_ok}
-use Rattle.bk_files.specs.Catalog.{main}
 use Rattle.bk_files.proofs.Standing.{after_view}
 use Rattle.bk_files.proofs.files.Files.view.Goals as goal
 
