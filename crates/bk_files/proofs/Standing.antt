@@ -4,20 +4,24 @@ use Rattle.std.specs.declared.option.Option.{Option}
 use Rattle.std.specs.declared.option.Option.TheVariants.{None, Some}
 use Rattle.std.specs.Option.{option_map, is_some, IsSome, IsSomeAnd, IfSome, unwrap_or}
 use Rattle.std.proofs.lemmas.Bool.{cases_Bool, true≢false}
-use Rattle.std.proofs.lemmas.List.{length-append, length-take-le}
+use Rattle.std.proofs.lemmas.List.{length-append, length-take-le, take-append-le, take-take}
 use Rattle.std.specs.Result.{OnOk, OnErr}
 use Rattle.std.specs.declared.result.Result.{Result}
 use Rattle.std.specs.declared.result.Result.TheVariants.{Ok, Err}
 use Rattle.bk_base.specs.declared.names.Name.{Name}
+use Rattle.bk_base.specs.declared.rows.Row.{Row}
 use Rattle.bk_disk.specs.Names.{same}
 use Rattle.bk_disk.specs.Told.{Table, Front, Told, at, bytes_of, with_name, IsOurs, IsWell}
-use Rattle.bk_disk.specs.Calls.{Appended, Synced, Cut, Made, all_safe, fresh, handed_more}
+use Rattle.bk_disk.specs.Calls.{Appended, Synced, Cut, Made, all_safe, fresh, handed_more, viewed}
 use Rattle.bk_disk.proofs.Names.{same_eq}
 use Rattle.bk_disk.proofs.Files.{appended_ours, appended_bytes, appended_whole, bytes_of-changed_other, cut_bytes, cut_ours, made_bytes, made_ours, synced_ours, there_in_both}
 use Rattle.bk_disk.proofs.Tables.{at-changed, at-changed_other, at-with_name, at-with_name_other}
 use Rattle.bk_files.specs.declared.catalog.Active.{Active}
-use Rattle.bk_files.specs.Catalog.{main, grown_of, torn_of, with_torn}
-use Rattle.bk_files.specs.Files.{IsActive, IsUnused, StandsFor, SettledOf}
+use Rattle.bk_files.specs.declared.catalog.Catalog.{Catalog}
+use Rattle.bk_files.specs.Catalog.{Begins, Grows, due_of, edited, grown_of, is_due, len_of, main, new_row, sealed, torn_of, with_counts, with_len, with_torn}
+use Rattle.bk_files.specs.Rows.{AreRows, AreSealed, IsRecord}
+use Rattle.bk_files.specs.Files.{IsActive, IsUnused, Stands, StandsFor}
+use Rattle.bk_files.proofs.Rows.{kept_appended, kept_cut, kept_made, kept_synced, rows_begun, rows_counted, rows_grown, rows_kept, rows_sealed, rows_still}
 
 abbrev IsSafeTo : ℕ → Option Front → Type 0
 IsSafeTo len o = IfSome o (λ f. length f.safe ≤ len)
@@ -181,13 +185,15 @@ unused_of n t w = record { empty = none_of (bytes_of n t.image) (omega (arith, w
 
 -- All of it
 
-pub stands_fresh : (last : ℕ) (t : Told) → IsWell t → ((n : Name) → last < n.id → is_some (at t.image n) ≡ false) → StandsFor None last t
-stands_fresh last t well free = record {
+pub stands_fresh : (last : ℕ) (rows : List Row) (t : Told) → IsWell t → ((n : Name) → last < n.id → is_some (at t.image n) ≡ false) → AreSealed 1 (last + 1) rows t
+    → StandsFor None last rows t
+stands_fresh last rows t well free made = record {
   now = tt;
   unused = λ id high. record {
     empty = none_at (at t.image (main id)) (free (main id) high);
     front = no_front (at t.fronts (main id)) (there_in_both t (main id) well ∙ free (main id) high);
   };
+  made = made;
 } where
   none_at : (o : Option (List ℕ)) → is_some o ≡ false → unwrap_or o [] ≡ []
   none_at None h = refl
@@ -197,55 +203,84 @@ stands_fresh last t well free = record {
   no_front None h = tt
   no_front (Some f) h = absurd (true≢false h)
 
-pub stands_appended : (active : Option Active) (last : ℕ) (piece : List ℕ) (t u : Told) → torn_of active ≡ false → Appended (main last) (length piece) piece t u
-    → StandsFor active last t → StandsFor (grown_of (length piece) active) last u
-stands_appended None last piece t u whole b w = record { now = tt; unused = λ id high. unused_appended (main last) (main id) (length piece) piece t u (other last id high) b (w.unused id high) }
-stands_appended (Some a) last piece t u whole b w = record {
+-- no call on the active file is made where there is none
+not_due : (size limit : ℕ) → due_of size limit None ≡ false → ⊥
+not_due size limit h = true≢false h
+
+stands_appended : (active : Option Active) (last limit : ℕ) (rows : List Row) (piece : List ℕ) (t u : Told) → torn_of active ≡ false
+    → due_of (length piece) limit active ≡ false → IsRecord piece → Appended (main last) (length piece) piece t u → StandsFor active last rows t
+    → StandsFor (grown_of (length piece) active) last (edited last (with_len (len_of active + length piece)) rows) u
+stands_appended None last limit rows piece t u whole due text b w = absurd (not_due (length piece) limit due)
+stands_appended (Some a) last limit rows piece t u whole due text b w = record {
   now = active_appended (main last) a piece t u whole b w.now;
   unused = λ id high. unused_appended (main last) (main id) (length piece) piece t u (other last id high) b (w.unused id high);
+  made = subst (λ k. AreRows (Some (record { len = a.len + length k; torn = false })) last (edited last (with_len (a.len + length k)) rows) u) (sym text.2)
+      (rows_grown a last rows t u text.0 (w.now.known whole)
+      (λ id low. kept_appended (main last) (main id) (length piece) piece t u (other_back id last low) b)
+      (appended_ours (main last) (main last) (length piece) piece t u b)
+      (appended_whole (main last) piece t u w.now.ours b ∙ ap (λ x. bytes_of (main last) t.image ++ x) text.2) text.1 w.made);
 }
 
-pub stands_torn : (active : Option Active) (last k : ℕ) (piece : List ℕ) (t u : Told) → Appended (main last) k piece t u
-    → StandsFor active last t → StandsFor (with_torn true active) last u
-stands_torn None last k piece t u b w = record { now = tt; unused = λ id high. unused_appended (main last) (main id) k piece t u (other last id high) b (w.unused id high) }
-stands_torn (Some a) last k piece t u b w = record {
+stands_torn : (active : Option Active) (last k size limit : ℕ) (rows : List Row) (piece : List ℕ) (t u : Told) → due_of size limit active ≡ false
+    → Appended (main last) k piece t u → StandsFor active last rows t → StandsFor (with_torn true active) last rows u
+stands_torn None last k size limit rows piece t u due b w = absurd (not_due size limit due)
+stands_torn (Some a) last k size limit rows piece t u due b w = record {
   now = active_torn (main last) a k piece t u b w.now;
   unused = λ id high. unused_appended (main last) (main id) k piece t u (other last id high) b (w.unused id high);
+  made = rows_still a (record { len = a.len; torn = true }) last rows t u refl
+      (λ id low. kept_appended (main last) (main id) k piece t u (other_back id last low) b)
+      (appended_ours (main last) (main last) k piece t u b)
+      (ap (λ x. take a.len x) (appended_bytes (main last) k piece t u w.now.ours b) ∙ take-append-le a.len (bytes_of (main last) t.image) (take k piece) w.now.inside) w.made;
 }
 
-pub stands_cut : (a : Active) (last : ℕ) (t u : Told) → Cut (main last) a.len t u → StandsFor (Some a) last t → StandsFor (Some a) last u
-stands_cut a last t u b w = record {
+stands_cut : (a : Active) (last : ℕ) (rows : List Row) (t u : Told) → Cut (main last) a.len t u → StandsFor (Some a) last rows t → StandsFor (Some a) last rows u
+stands_cut a last rows t u b w = record {
   now = active_cut (main last) a t u b w.now;
   unused = λ id high. unused_cut (main last) (main id) a.len t u (other last id high) b (w.unused id high);
+  made = rows_still a a last rows t u refl (λ id low. kept_cut (main last) (main id) a.len t u (other_back id last low) b)
+      (cut_ours (main last) (main last) a.len t u b)
+      (ap (λ x. take a.len x) (cut_bytes (main last) a.len t u w.now.ours b) ∙ take-take a.len a.len (bytes_of (main last) t.image) (omega arith)) w.made;
 }
 
-stands_synced : (a : Active) (torn : Bool) (last : ℕ) (t u : Told) → length (bytes_of (main last) t.image) ≡ a.len → Synced (main last) t u
-    → StandsFor (Some a) last t → StandsFor (Some (record { len = a.len; torn = torn })) last u
-stands_synced a torn last t u long b w = record {
+stands_synced : (a : Active) (torn : Bool) (last : ℕ) (rows : List Row) (t u : Told) → length (bytes_of (main last) t.image) ≡ a.len → Synced (main last) t u
+    → StandsFor (Some a) last rows t → StandsFor (Some (record { len = a.len; torn = torn })) last rows u
+stands_synced a torn last rows t u long b w = record {
   now = active_synced (main last) a torn t u long b w.now;
   unused = λ id high. unused_synced (main last) (main id) t u (other last id high) b (w.unused id high);
+  made = rows_still a (record { len = a.len; torn = torn }) last rows t u refl (λ id low. kept_synced (main last) (main id) t u b)
+      (synced_ours (main last) (main last) t u b) (ap (λ x. take a.len x) (kept_synced (main last) (main last) t u b).1) w.made;
 }
 
-pub stands_repaired : (a : Active) (last : ℕ) (t m u : Told) → Cut (main last) a.len t m → Synced (main last) m u
-    → StandsFor (Some a) last t → StandsFor (Some (record { len = a.len; torn = false })) last u
-stands_repaired a last t m u cut synced w = stands_synced a false last m u (cut_len (main last) a t m cut w.now) synced (stands_cut a last t m cut w)
+stands_repaired : (a : Active) (last : ℕ) (rows : List Row) (t m u : Told) → Cut (main last) a.len t m → Synced (main last) m u
+    → StandsFor (Some a) last rows t → StandsFor (Some (record { len = a.len; torn = false })) last rows u
+stands_repaired a last rows t m u cut synced w =
+    stands_synced a false last rows m u (cut_len (main last) a t m cut w.now) synced (stands_cut a last rows t m cut w)
 
-pub stands_settled : (active : Option Active) (last : ℕ) (t u : Told) → torn_of active ≡ false → SettledOf last active t u → StandsFor active last t → StandsFor active last u
-stands_settled None last t u whole b w = subst (λ x. StandsFor None last x) (sym b) w
-stands_settled (Some a) last t u whole b w = stands_synced a a.torn last t u (w.now.known whole) b w
+-- all bytes are known where no append has failed
+known_whole : (active : Option Active) (last : ℕ) (t : Told) → torn_of active ≡ false → IfSome active (λ a. IsActive (main last) a t)
+    → IfSome active (λ a. length (bytes_of (main last) t.image) ≡ a.len)
+known_whole None last t whole w = tt
+known_whole (Some a) last t whole w = w.known whole
 
 -- the next file is made and is the active one
-pub stands_begun : (active : Option Active) (last : ℕ) (t u : Told) → IsWell t → Made (main (last + 1)) false t u → StandsFor active last t → StandsFor (Some empty) (last + 1) u
-stands_begun active last t u well b w = record {
-  now = active_made (main (last + 1)) t u well b (w.unused (last + 1) (omega arith));
-  unused = λ id high. unused_made (main (last + 1)) (main id) t u (other (last + 1) id high) b (w.unused id (omega (arith, high)));
-}
+stands_begun : (active : Option Active) (last : ℕ) (rows : List Row) (t u : Told) → IsWell t → torn_of active ≡ false → Made (main (last + 1)) false t u
+    → StandsFor active last rows t → StandsFor (Some empty) (last + 1) (edited last sealed rows ++ new_row (last + 1) ∷ []) u
+stands_begun active last rows t u well whole b w =
+    let next = active_made (main (last + 1)) t u well b (w.unused (last + 1) (omega arith)) in
+    record {
+      now = next;
+      unused = λ id high. unused_made (main (last + 1)) (main id) t u (other (last + 1) id high) b (w.unused id (omega (arith, high)));
+      made = rows_begun last (edited last sealed rows) t u (λ id low. kept_made (main (last + 1)) (main id) t u (other_back id (last + 1) low) b) next.ours
+          (rows_sealed active last rows t (known_whole active last t whole w.now) w.made);
+    }
 
 -- the next file was made by a call that was refused
-pub stands_half_begun : (active : Option Active) (last : ℕ) (t u : Told) → IsWell t → Made (main (last + 1)) false t u → StandsFor active last t → StandsFor active last u
-stands_half_begun active last t u well b w = record {
+stands_half_begun : (active : Option Active) (last : ℕ) (rows : List Row) (t u : Told) → IsWell t → Made (main (last + 1)) false t u
+    → StandsFor active last rows t → StandsFor active last rows u
+stands_half_begun active last rows t u well b w = record {
   now = go active w.now;
   unused = λ id high. unused_next id high;
+  made = rows_kept active last rows t u (λ id low. kept_made (main (last + 1)) (main id) t u (other_back id (last + 1) (omega (arith, low))) b) w.made;
 } where
   go : (o : Option Active) → IfSome o (λ a. IsActive (main last) a t) → IfSome o (λ a. IsActive (main last) a u)
   go None h = tt
@@ -265,53 +300,86 @@ either : {T E : Type 0} (r : Result T E) (P Q R : Type 0) → OnOk r P → OnErr
 either (Ok x) P Q R p q f g = f p
 either (Err e) P Q R p q f g = g q
 
-synced_any : (active : Option Active) (last : ℕ) (t u : Told) → torn_of active ≡ false → Synced (main last) t u → StandsFor active last t → StandsFor active last u
-synced_any None last t u whole b w = record { now = tt; unused = λ id high. unused_synced (main last) (main id) t u (other last id high) b (w.unused id high) }
-synced_any (Some a) last t u whole b w = stands_synced a a.torn last t u (w.now.known whole) b w
+-- the same in other words
+stands_as : (active now : Option Active) (last next : ℕ) (rows after : List Row) (t : Told) → now ≡ active → next ≡ last → after ≡ rows
+    → StandsFor active last rows t → StandsFor now next after t
+stands_as active now last next rows after t is number list w = rw (is, number, list) w
 
-pub after_sync : {T E : Type 0} (r : Result T E) (active : Option Active) (last : ℕ) (n : Name) (t u : Told) → torn_of active ≡ false → n ≡ main last
-    → OnOk r (Synced n t u) → OnErr r (u ≡ t) → StandsFor active last t → StandsFor active last u
-after_sync r active last n t u whole is ok err w =
-    either r (Synced n t u) (u ≡ t) (StandsFor active last u) ok err
-    (λ b. synced_any active last t u whole (subst (λ m. Synced m t u) is b) w)
-    (λ e. subst (λ x. StandsFor active last x) (sym e) w)
+stands_told : (active : Option Active) (last : ℕ) (rows : List Row) (t u : Told) → u ≡ t → StandsFor active last rows t → StandsFor active last rows u
+stands_told active last rows t u same w = subst (λ x. StandsFor active last rows x) (sym same) w
 
-pub after_cut : (active : Option Active) (a : Active) (last : ℕ) (n : Name) (t u : Told) → active ≡ Some a → n ≡ main last
-    → (u ≡ t) ⊎ Cut n a.len t u → StandsFor active last t → StandsFor active last u
-after_cut active a last n t u is name (inl same) w = subst (λ x. StandsFor active last x) (sym same) w
-after_cut active a last n t u is name (inr b) w =
-    subst (λ o. StandsFor o last u) (sym is) (stands_cut a last t u (subst (λ m. Cut m a.len t u) name b) (subst (λ o. StandsFor o last t) is w))
+synced_any : (active : Option Active) (last : ℕ) (rows : List Row) (t u : Told) → torn_of active ≡ false → Synced (main last) t u
+    → StandsFor active last rows t → StandsFor active last rows u
+synced_any None last rows t u whole b w = record {
+  now = tt;
+  unused = λ id high. unused_synced (main last) (main id) t u (other last id high) b (w.unused id high);
+  made = rows_kept None last rows t u (λ id low. kept_synced (main last) (main id) t u b) w.made;
+}
+synced_any (Some a) last rows t u whole b w = stands_synced a a.torn last rows t u (w.now.known whole) b w
 
-pub ours_after_cut : (active : Option Active) (a : Active) (last : ℕ) (n : Name) (t u : Told) → active ≡ Some a → n ≡ main last
-    → Cut n a.len t u → StandsFor active last t → IsOurs n u
-ours_after_cut active a last n t u is name b w =
-    let stood : StandsFor (Some a) last t = subst (λ o. StandsFor o last t) is w in
-    subst (λ m. IsOurs m u) (sym name) (active_cut (main last) a t u (subst (λ m. Cut m a.len t u) name b) stood.now).ours
+pub after_sync : {T E : Type 0} (r : Result T E) (c : Catalog) (n : Name) (t u : Told) → torn_of c.active ≡ false → n ≡ main c.last.0
+    → OnOk r (Synced n t u) → OnErr r (u ≡ t) → Stands c t → Stands c u
+after_sync r c n t u whole is ok err w =
+    either r (Synced n t u) (u ≡ t) (Stands c u) ok err
+    (λ b. synced_any c.active c.last.0 c.rows.items t u whole (subst (λ m. Synced m t u) is b) w)
+    (λ e. stands_told c.active c.last.0 c.rows.items t u e w)
 
-pub after_repair : (active : Option Active) (a : Active) (last : ℕ) (n : Name) (t m u : Told) → active ≡ Some a → n ≡ main last
-    → Cut n a.len t m → Synced n m u → StandsFor active last t → StandsFor (Some (record { len = a.len; torn = false })) last u
-after_repair active a last n t m u is name cut synced w =
-    stands_repaired a last t m u (subst (λ k. Cut k a.len t m) name cut) (subst (λ k. Synced k m u) name synced) (subst (λ o. StandsFor o last t) is w)
+pub after_cut : (c : Catalog) (a : Active) (n : Name) (t u : Told) → c.active ≡ Some a → n ≡ main c.last.0
+    → (u ≡ t) ⊎ Cut n a.len t u → Stands c t → Stands c u
+after_cut c a n t u is name (inl same) w = stands_told c.active c.last.0 c.rows.items t u same w
+after_cut c a n t u is name (inr b) w =
+    subst (λ o. StandsFor o c.last.0 c.rows.items u) (sym is)
+    (stands_cut a c.last.0 c.rows.items t u (subst (λ m. Cut m a.len t u) name b) (subst (λ o. StandsFor o c.last.0 c.rows.items t) is w))
 
-pub after_create : (active : Option Active) (last : ℕ) (n : Name) (t u : Told) → IsWell t → n ≡ main (last + 1)
-    → (u ≡ t) ⊎ Made n false t u → StandsFor active last t → StandsFor active last u
-after_create active last n t u well name (inl same) w = subst (λ x. StandsFor active last x) (sym same) w
-after_create active last n t u well name (inr b) w = stands_half_begun active last t u well (subst (λ m. Made m false t u) name b) w
+pub ours_after_cut : (c : Catalog) (a : Active) (n : Name) (t u : Told) → c.active ≡ Some a → n ≡ main c.last.0
+    → Cut n a.len t u → Stands c t → IsOurs n u
+ours_after_cut c a n t u is name b w =
+    let stood : StandsFor (Some a) c.last.0 c.rows.items t = subst (λ o. StandsFor o c.last.0 c.rows.items t) is w in
+    subst (λ m. IsOurs m u) (sym name) (active_cut (main c.last.0) a t u (subst (λ m. Cut m a.len t u) name b) stood.now).ours
 
-pub after_begin : (active now : Option Active) (last next : ℕ) (n : Name) (t u : Told) → IsWell t → n ≡ main (last + 1) → now ≡ Some (record { len = 0; torn = false }) → next ≡ last + 1
-    → Made n false t u → StandsFor active last t → StandsFor now next u
-after_begin active now last next n t u well name begun number b w =
-    subst (λ o. StandsFor o next u) (sym begun) (subst (λ k. StandsFor (Some (record { len = 0; torn = false })) k u) (sym number)
-    (stands_begun active last t u well (subst (λ m. Made m false t u) name b) w))
+pub after_repair : (c : Catalog) (a : Active) (n : Name) (t m u : Told) → c.active ≡ Some a → n ≡ main c.last.0
+    → Cut n a.len t m → Synced n m u → Stands c t → StandsFor (Some (record { len = a.len; torn = false })) c.last.0 c.rows.items u
+after_repair c a n t m u is name cut synced w =
+    stands_repaired a c.last.0 c.rows.items t m u (subst (λ k. Cut k a.len t m) name cut) (subst (λ k. Synced k m u) name synced)
+    (subst (λ o. StandsFor o c.last.0 c.rows.items t) is w)
 
-pub after_append : (active now : Option Active) (last next size : ℕ) (n : Name) (piece : List ℕ) (t u : Told) → torn_of active ≡ false → n ≡ main last
-    → now ≡ grown_of size active → size ≡ length piece → next ≡ last → Appended n (length piece) piece t u → StandsFor active last t → StandsFor now next u
-after_append active now last next size n piece t u whole name grown long number b w =
-    subst (λ o. StandsFor o next u) (sym (grown ∙ ap (λ k. grown_of k active) long)) (subst (λ k. StandsFor (grown_of (length piece) active) k u) (sym number)
-    (stands_appended active last piece t u whole (subst (λ m. Appended m (length piece) piece t u) name b) w))
+pub after_create : (c : Catalog) (n : Name) (t u : Told) → IsWell t → n ≡ main (c.last.0 + 1)
+    → (u ≡ t) ⊎ Made n false t u → Stands c t → Stands c u
+after_create c n t u well name (inl same) w = stands_told c.active c.last.0 c.rows.items t u same w
+after_create c n t u well name (inr b) w = stands_half_begun c.active c.last.0 c.rows.items t u well (subst (λ m. Made m false t u) name b) w
 
-pub after_tear : (active now : Option Active) (last next : ℕ) (n : Name) (piece : List ℕ) (t u : Told) → n ≡ main last
-    → now ≡ with_torn true active → next ≡ last → ((k : ℕ) × Appended n k piece t u) → StandsFor active last t → StandsFor now next u
-after_tear active now last next n piece t u name torn number b w =
-    subst (λ o. StandsFor o next u) (sym torn) (subst (λ k. StandsFor (with_torn true active) k u) (sym number)
-    (stands_torn active last b.0 piece t u (subst (λ m. Appended m b.0 piece t u) name b.1) w))
+pub after_begin : (c d : Catalog) (n : Name) (t u : Told) → IsWell t → torn_of c.active ≡ false → n ≡ main (c.last.0 + 1) → Begins c d
+    → Made n false t u → Stands c t → Stands d u
+after_begin c d n t u well whole name begun b w =
+    stands_as (Some empty) d.active (c.last.0 + 1) d.last.0 (edited c.last.0 sealed c.rows.items ++ new_row (c.last.0 + 1) ∷ []) d.rows.items u
+    begun.active begun.last begun.rows (stands_begun c.active c.last.0 c.rows.items t u well whole (subst (λ m. Made m false t u) name b) w)
+
+pub after_append : (c d : Catalog) (n : Name) (piece : List ℕ) (t u : Told) → torn_of c.active ≡ false → is_due (length piece) c ≡ false → IsRecord piece
+    → n ≡ main c.last.0 → Grows (length piece) c d → Appended n (length piece) piece t u → Stands c t → Stands d u
+after_append c d n piece t u whole due text name grown b w =
+    stands_as (grown_of (length piece) c.active) d.active c.last.0 d.last.0 (edited c.last.0 (with_len (len_of c.active + length piece)) c.rows.items) d.rows.items u
+    grown.active (ap (λ f. f.0) grown.last) grown.rows
+    (stands_appended c.active c.last.0 c.max_file c.rows.items piece t u whole due text (subst (λ m. Appended m (length piece) piece t u) name b) w)
+
+pub after_tear : (c d : Catalog) (n : Name) (piece : List ℕ) (t u : Told) → is_due (length piece) c ≡ false → n ≡ main c.last.0
+    → d ≡ record c { active = with_torn true c.active } → ((k : ℕ) × Appended n k piece t u) → Stands c t → Stands d u
+after_tear c d n piece t u due name torn b w =
+    subst (λ x. Stands x u) (sym torn)
+    (stands_torn c.active c.last.0 b.0 (length piece) c.max_file c.rows.items piece t u due (subst (λ m. Appended m b.0 piece t u) name b.1) w)
+
+pub after_count : (c d : Catalog) (id live refs : ℕ) (t : Told) → d.active ≡ c.active → d.last ≡ c.last → d.rows.items ≡ edited id (with_counts live refs) c.rows.items
+    → Stands c t → Stands d t
+after_count c d id live refs t active last rows w =
+    stands_as c.active d.active c.last.0 d.last.0 (edited id (with_counts live refs) c.rows.items) d.rows.items t active (ap (λ f. f.0) last) rows
+    (record { now = w.now; unused = w.unused; made = rows_counted c.active c.last.0 id live refs c.rows.items t w.made })
+
+-- a view changes neither the files nor their fronts
+pub after_view : (c : Catalog) (made : Bool) (n : Name) (from size : ℕ) (t u : Told) → u ≡ viewed made n from size t → Stands c t → Stands c u
+after_view c made n from size t u told w = stands_told c.active c.last.0 c.rows.items (viewed made n from size t) u told (record {
+  now = go c.active w.now;
+  unused = λ id high. unused_same (main id) t (viewed made n from size t) refl refl (w.unused id high);
+  made = rows_kept c.active c.last.0 c.rows.items t (viewed made n from size t) (λ id low. (λ ours. ours, refl)) w.made;
+}) where
+  go : (o : Option Active) → IfSome o (λ a. IsActive (main c.last.0) a t) → IfSome o (λ a. IsActive (main c.last.0) a (viewed made n from size t))
+  go None h = tt
+  go (Some a) h = active_same (main c.last.0) a t (viewed made n from size t) refl refl h

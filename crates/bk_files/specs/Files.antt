@@ -1,11 +1,13 @@
 -- What the calls on the data files do to what the disk tells.
-use Rattle.std.specs.Prelude.{◌≡◌, ◌⊎◌, ℕ, ◌+◌, ◌<◌, ◌≤◌, true, false, [], length, Option, None, Some, IfSome}
+use Rattle.std.specs.Prelude.{◌≡◌, ◌⊎◌, ℕ, ◌+◌, ◌<◌, ◌≤◌, true, false, List, [], length, Option, None, Some, IfSome}
 use Rattle.bk_base.specs.declared.names.Name.{Name}
+use Rattle.bk_base.specs.declared.rows.Row.{Row}
 use Rattle.bk_disk.specs.Told.{Told, at, bytes_of, IsOurs}
 use Rattle.bk_disk.specs.Calls.{Cut, Made, Synced}
 use Rattle.bk_files.specs.declared.catalog.Active.{Active}
 use Rattle.bk_files.specs.declared.catalog.Catalog.{Catalog}
 use Rattle.bk_files.specs.Catalog.{main}
+use Rattle.bk_files.specs.Rows.{AreRows}
 
 -- The active file is ours. It has its known length, or more after a failed append, and nothing of
 -- it past that length is synced.
@@ -20,14 +22,15 @@ pub record IsUnused (n : Name) (t : Told) : Type 0 where
   pub empty : bytes_of n t.image ≡ []
   pub front : IfSome (at t.fronts n) (λ f. (f.lent ≡ false) × (f.safe ≡ []))
 
--- what holds of the active file, and of the names of files to come
-pub record StandsFor (active : Option Active) (last : ℕ) (t : Told) : Type 0 where
+-- what holds of the active file, of the names of files to come, and of the rows
+pub record StandsFor (active : Option Active) (last : ℕ) (rows : List Row) (t : Told) : Type 0 where
   pub now : IfSome active (λ a. IsActive (main last) a t)
   pub unused : (id : ℕ) → last < id → IsUnused (main id) t
+  pub made : AreRows active last rows t
 
 -- what holds between two calls
 abbrev pub Stands : Catalog → Told → Type 0
-Stands c t = StandsFor c.active c.last.0 t
+Stands c t = StandsFor c.active c.last.0 c.rows.items t
 
 -- the active file was cut to its known length and synced, where an append had failed
 abbrev pub RepairedOf : ℕ → Option Active → Told → Told → Type 0

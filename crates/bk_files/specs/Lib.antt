@@ -1,3 +1,4 @@
 pub mod Catalog
+pub mod Rows
 pub mod Files
 pub mod Refusal

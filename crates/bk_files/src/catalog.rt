@@ -130,7 +130,8 @@ impl Catalog {
     // The row of the newest file is sealed.
     fn seal(&mut self)
         ensures rows { self.new.rows.items ≡ edited self.old.last.0 sealed self.old.rows.items }
-        ensures room { (vec_len self.new.rows ≡ vec_len self.old.rows) × (vec_capacity self.new.rows ≡ vec_capacity self.old.rows) }
+        ensures room { (vec_len self.new.rows ≡ vec_len self.old.rows)
+            × (vec_capacity self.new.rows ≡ vec_capacity self.old.rows) }
         ensures active { self.new.active ≡ self.old.active }
         ensures last { self.new.last ≡ self.old.last }
         ensures max_file { self.new.max_file ≡ self.old.max_file }

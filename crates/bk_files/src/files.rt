@@ -5,6 +5,7 @@ ghost use Rattle.bk_disk.specs.Causes.{IsCaused, HasCause, Rose, bumped};
 ghost use Rattle.bk_disk.specs.Told.{IsAbsent, IsWithin, range_of};
 ghost use Rattle.bk_base.specs.declared.names.Name.{Name};
 ghost use Rattle.bk_files.specs.Catalog.{Begins, Grows, Same, edited, is_due, len_of, main, row_of, torn_of, with_counts, with_torn};
+ghost use Rattle.bk_files.specs.Rows.{AreSealed, IsRecord};
 ghost use Rattle.bk_files.specs.Files.{HalfRepaired, HalfRolled, Repaired, Rolled, Settled, Stands, Synchronized};
 
 use crate::catalog::{Active, Catalog, name_of};
@@ -15,7 +16,9 @@ use bk_disk::{Disk, DiskError, Failed};
 const LAST_FILE: u32 = 4_294_967_294;
 
 /// The data files of a store. One of them may be active: texts are appended to it until the next
-/// would pass the limit, and then the store rolls to a new one.
+/// would pass the limit, and then the store rolls to a new one. Between two calls each row but for
+/// its counts is as made from scratch: `len` is the length of the file's known bytes, and `total`
+/// that of their whole records from the front.
 #[derive(Drop)]
 pub struct Files<D: Disk> {
     pub disk: D,
@@ -23,9 +26,11 @@ pub struct Files<D: Disk> {
 }
 
 impl<D: Disk> Files<D> {
-    /// The files of a disk, all of them sealed. The rows are in order of id, up to `last`.
+    /// The files of a disk, all of them sealed. The rows are as made from scratch, in order of id, up
+    /// to `last`.
     pub fn new(disk: D, rows: Vec<Row>, last: FileId, max_file: u32) -> Files<D>
-        requires { IsTrue D.tells → (n : Name) → last.0 < n.id → IsAbsent n (D.told disk).image }
+        requires free { IsTrue D.tells → (n : Name) → last.0 < n.id → IsAbsent n (D.told disk).image }
+        requires rows { IsTrue D.tells → AreSealed 1 (last.0 + 1) rows.items (D.told disk) }
         ensures disk { result.disk ≡ disk }
         ensures rows { result.catalog.rows ≡ rows }
         ensures active { result.catalog.active ≡ None }
@@ -55,10 +60,14 @@ impl<D: Disk> Files<D> {
     /// syncs it. After `Failed` the next repair does both again.
     pub fn repair(&mut self) -> Result<(), Failed>
         requires { IsTrue D.tells → Stands self.old.catalog (D.told self.old.disk) }
-        ensures ok { OnOk result (self.new.catalog ≡ record self.old.catalog { active = with_torn false self.old.catalog.active }) }
+        ensures ok { OnOk result
+            (self.new.catalog
+            ≡ record self.old.catalog { active = with_torn false self.old.catalog.active }) }
         ensures err { OnErr result (self.new.catalog ≡ self.old.catalog) }
-        ensures repaired { IsTrue D.tells → OnOk result (Repaired self.old.catalog (D.told self.old.disk) (D.told self.new.disk)) }
-        ensures half { IsTrue D.tells → OnErr result (HalfRepaired self.old.catalog (D.told self.old.disk) (D.told self.new.disk)) }
+        ensures repaired { IsTrue D.tells → OnOk result
+            (Repaired self.old.catalog (D.told self.old.disk) (D.told self.new.disk)) }
+        ensures half { IsTrue D.tells → OnErr result
+            (HalfRepaired self.old.catalog (D.told self.old.disk) (D.told self.new.disk)) }
         ensures stands { IsTrue D.tells → Stands self.new.catalog (D.told self.new.disk) }
         ensures cause { IsCaused (D.faults self.old.disk) (D.faults self.new.disk) result }
         ensures views { D.weak_views self.new.disk ≡ D.weak_views self.old.disk }
@@ -83,7 +92,8 @@ impl<D: Disk> Files<D> {
     /// Makes room for a text of this many bytes in the active file, where there is one that takes it.
     pub fn ready(&mut self, size: u32) -> Result<(), Memory>
         requires { IsTrue D.tells → Stands self.old.catalog (D.told self.old.disk) }
-        ensures room { OnOk result (is_due size self.old.catalog ≡ false → size ≤ D.room self.new.disk (main self.old.catalog.last.0)) }
+        ensures room { OnOk result (is_due size self.old.catalog ≡ false
+            → size ≤ D.room self.new.disk (main self.old.catalog.last.0)) }
         ensures enough { size ≤ D.room self.old.disk (main self.old.catalog.last.0) → IsOk result }
         ensures catalog { self.new.catalog ≡ self.old.catalog }
         ensures told { IsTrue D.tells → D.told self.new.disk ≡ D.told self.old.disk }
@@ -106,11 +116,17 @@ impl<D: Disk> Files<D> {
         requires whole { torn_of self.old.catalog.active ≡ false }
         requires due { is_due (length text.now) self.old.catalog ≡ false }
         requires room { length text.now ≤ D.room self.old.disk (main self.old.catalog.last.0) }
+        requires text { IsRecord text.now }
         ensures place { IfOk result (λ at. at ≡ len_of self.old.catalog.active) }
         ensures ok { OnOk result (Grows (length text.now) self.old.catalog self.new.catalog) }
-        ensures err { OnErr result (self.new.catalog ≡ record self.old.catalog { active = with_torn true self.old.catalog.active }) }
-        ensures appended { IsTrue D.tells → OnOk result (Appended (main self.old.catalog.last.0) (length text.now) text.now (D.told self.old.disk) (D.told self.new.disk)) }
-        ensures part { IsTrue D.tells → OnErr result ((n : ℕ) × Appended (main self.old.catalog.last.0) n text.now (D.told self.old.disk) (D.told self.new.disk)) }
+        ensures err { OnErr result
+            (self.new.catalog ≡ record self.old.catalog { active = with_torn true self.old.catalog.active }) }
+        ensures appended { IsTrue D.tells → OnOk result
+            (Appended (main self.old.catalog.last.0) (length text.now) text.now
+            (D.told self.old.disk) (D.told self.new.disk)) }
+        ensures part { IsTrue D.tells → OnErr result
+            ((n : ℕ) × Appended (main self.old.catalog.last.0) n text.now
+            (D.told self.old.disk) (D.told self.new.disk)) }
         ensures stands { IsTrue D.tells → Stands self.new.catalog (D.told self.new.disk) }
         ensures cause { IsCaused (D.faults self.old.disk) (D.faults self.new.disk) result }
         ensures views { D.weak_views self.new.disk ≡ D.weak_views self.old.disk }
@@ -131,7 +147,8 @@ impl<D: Disk> Files<D> {
         requires stands { IsTrue D.tells → Stands self.old.catalog (D.told self.old.disk) }
         requires whole { torn_of self.old.catalog.active ≡ false }
         ensures catalog { self.new.catalog ≡ self.old.catalog }
-        ensures synced { IsTrue D.tells → OnOk result (Settled self.old.catalog (D.told self.old.disk) (D.told self.new.disk)) }
+        ensures synced { IsTrue D.tells → OnOk result
+            (Settled self.old.catalog (D.told self.old.disk) (D.told self.new.disk)) }
         ensures err { IsTrue D.tells → OnErr result (D.told self.new.disk ≡ D.told self.old.disk) }
         ensures stands { IsTrue D.tells → Stands self.new.catalog (D.told self.new.disk) }
         ensures cause { IsCaused (D.faults self.old.disk) (D.faults self.new.disk) result }
@@ -148,10 +165,17 @@ impl<D: Disk> Files<D> {
     /// Repairs the active file and syncs it. Without one it makes no call.
     pub fn sync(&mut self) -> Result<(), Failed>
         requires { IsTrue D.tells → Stands self.old.catalog (D.told self.old.disk) }
-        ensures ok { OnOk result (self.new.catalog ≡ record self.old.catalog { active = with_torn false self.old.catalog.active }) }
-        ensures err { OnErr result ((self.new.catalog ≡ self.old.catalog) ⊎ (self.new.catalog ≡ record self.old.catalog { active = with_torn false self.old.catalog.active })) }
-        ensures synced { IsTrue D.tells → OnOk result (Synchronized self.old.catalog (D.told self.old.disk) (D.told self.new.disk)) }
-        ensures half { IsTrue D.tells → OnErr result (HalfRepaired self.old.catalog (D.told self.old.disk) (D.told self.new.disk) ⊎ Repaired self.old.catalog (D.told self.old.disk) (D.told self.new.disk)) }
+        ensures ok { OnOk result
+            (self.new.catalog
+            ≡ record self.old.catalog { active = with_torn false self.old.catalog.active }) }
+        ensures err { OnErr result ((self.new.catalog ≡ self.old.catalog)
+            ⊎ (self.new.catalog
+            ≡ record self.old.catalog { active = with_torn false self.old.catalog.active })) }
+        ensures synced { IsTrue D.tells → OnOk result
+            (Synchronized self.old.catalog (D.told self.old.disk) (D.told self.new.disk)) }
+        ensures half { IsTrue D.tells → OnErr result
+            (HalfRepaired self.old.catalog (D.told self.old.disk) (D.told self.new.disk)
+            ⊎ Repaired self.old.catalog (D.told self.old.disk) (D.told self.new.disk)) }
         ensures stands { IsTrue D.tells → Stands self.new.catalog (D.told self.new.disk) }
         ensures cause { IsCaused (D.faults self.old.disk) (D.faults self.new.disk) result }
         ensures views { D.weak_views self.new.disk ≡ D.weak_views self.old.disk }
@@ -171,11 +195,14 @@ impl<D: Disk> Files<D> {
         ensures full { IsErrOf result RollError.FullFiles ↔ (4294967294 ≤ self.old.catalog.last.0) }
         ensures ok { OnOk result (Begins self.old.catalog self.new.catalog) }
         ensures err { OnErr result (Same self.old.catalog self.new.catalog) }
-        ensures rolled { IsTrue D.tells → OnOk result (Rolled self.old.catalog (D.told self.old.disk) (D.told self.new.disk)) }
-        ensures half { IsTrue D.tells → OnErr result (HalfRolled self.old.catalog (D.told self.old.disk) (D.told self.new.disk)) }
+        ensures rolled { IsTrue D.tells → OnOk result
+            (Rolled self.old.catalog (D.told self.old.disk) (D.told self.new.disk)) }
+        ensures half { IsTrue D.tells → OnErr result
+            (HalfRolled self.old.catalog (D.told self.old.disk) (D.told self.new.disk)) }
         ensures stands { IsTrue D.tells → Stands self.new.catalog (D.told self.new.disk) }
         ensures later { D.faults self.old.disk ≤ D.faults self.new.disk }
-        ensures disk { IsErrOf result RollError.Disk → Rose (D.faults self.old.disk) (D.faults self.new.disk) }
+        ensures disk { IsErrOf result RollError.Disk
+            → Rose (D.faults self.old.disk) (D.faults self.new.disk) }
         ensures views { D.weak_views self.new.disk ≡ D.weak_views self.old.disk }
         ensures outs { D.weak_outs self.new.disk ≡ D.weak_outs self.old.disk }
     {
@@ -193,15 +220,19 @@ impl<D: Disk> Files<D> {
     /// A view of `len` bytes of a file from `at` on. A range past its end is `Failed`.
     pub fn view(&mut self, file: FileId, at: u64, len: u64) -> Result<D::View, DiskError>
         requires { IsTrue D.tells → Stands self.old.catalog (D.told self.old.disk) }
-        ensures within { IsTrue D.tells → OnOk result (IsWithin (main file.0) at len (D.told self.old.disk).image) }
-        ensures bytes { IsTrue D.tells → IfOk result (λ v. D.View.left v ≡ range_of (main file.0) at len (D.told self.old.disk).image) }
+        ensures within { IsTrue D.tells → OnOk result
+            (IsWithin (main file.0) at len (D.told self.old.disk).image) }
+        ensures bytes { IsTrue D.tells → IfOk result
+            (λ v. D.View.left v ≡ range_of (main file.0) at len (D.told self.old.disk).image) }
         ensures rest { IfOk result (λ v. D.View.rest v ≡ len) }
         ensures catalog { self.new.catalog ≡ self.old.catalog }
-        ensures told { IsTrue D.tells → D.told self.new.disk ≡ viewed (is_ok result) (main file.0) at len (D.told self.old.disk) }
+        ensures told { IsTrue D.tells
+            → D.told self.new.disk ≡ viewed (is_ok result) (main file.0) at len (D.told self.old.disk) }
         ensures stands { IsTrue D.tells → Stands self.new.catalog (D.told self.new.disk) }
         ensures rooms { (n : Name) → D.room self.old.disk n ≤ D.room self.new.disk n }
         ensures cause { HasCause (D.faults self.old.disk) (D.faults self.new.disk) result }
-        ensures views { IfOk result (λ v. D.weak_views self.new.disk ≡ bumped (D.View.weak v) (D.weak_views self.old.disk)) }
+        ensures views { IfOk result
+            (λ v. D.weak_views self.new.disk ≡ bumped (D.View.weak v) (D.weak_views self.old.disk)) }
         ensures no_view { OnErr result (D.weak_views self.new.disk ≡ D.weak_views self.old.disk) }
         ensures outs { D.weak_outs self.new.disk ≡ D.weak_outs self.old.disk }
     {
@@ -224,8 +255,11 @@ impl<D: Disk> Files<D> {
 
     /// Sets the two counts of a file's row.
     pub fn count(&mut self, file: FileId, live: u64, refs: u64)
+        requires { IsTrue D.tells → Stands self.old.catalog (D.told self.old.disk) }
+        ensures stands { IsTrue D.tells → Stands self.new.catalog (D.told self.new.disk) }
         ensures disk { self.new.disk ≡ self.old.disk }
-        ensures rows { self.new.catalog.rows.items ≡ edited file.0 (with_counts live refs) self.old.catalog.rows.items }
+        ensures rows { self.new.catalog.rows.items
+            ≡ edited file.0 (with_counts live refs) self.old.catalog.rows.items }
         ensures active { self.new.catalog.active ≡ self.old.catalog.active }
         ensures last { self.new.catalog.last ≡ self.old.catalog.last }
         ensures max_file { self.new.catalog.max_file ≡ self.old.catalog.max_file }
