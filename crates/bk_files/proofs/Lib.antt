@@ -1,2 +1,4 @@
+pub mod FirstRecords
 pub mod RowEdits
 pub mod Standing
+pub mod Scanning

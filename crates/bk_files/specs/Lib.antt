@@ -1,3 +1,4 @@
 pub mod Catalog
 pub mod Files
 pub mod Refusal
+pub mod Scan
