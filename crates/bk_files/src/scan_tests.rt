@@ -67,8 +67,10 @@ fn scans(rt: &impl Abort, alloc: Global, bytes: &[u8], count: usize, end: u64) -
 fn all_of<V: View>(scan: &mut Scan, alloc: Global, view: &mut V) -> Result<Vec<Write>, Fail>
     requires goes { GoesWith V.tells (V.left view.old) (V.rest view.old) scan.old }
     requires front { scan.old.place ≡ 0 }
-    ensures writes { IsTrue V.tells → IfOk result (λ writes. AreRecords (scan.old.held ++ V.left view.old) writes.items) }
-    ensures end { IsTrue V.tells → IfOk result (λ writes. scan.new.place ≡ length (records_of writes.items)) }
+    ensures writes { IsTrue V.tells → IfOk result
+        (λ writes. AreRecords (scan.old.held ++ V.left view.old) writes.items) }
+    ensures end { IsTrue V.tells → IfOk result
+        (λ writes. scan.new.place ≡ length (records_of writes.items)) }
 {
     let mut writes = Vec::new(alloc);
     while let Some(found) = scan.next(view)? {
@@ -80,11 +82,15 @@ fn all_of<V: View>(scan: &mut Scan, alloc: Global, view: &mut V) -> Result<Vec<W
 #[test]
 fn whole_records_are_found(rt: HostRuntime) -> Result<(), Fail> {
     let mut text = text(rt.alloc())?;
+    assert!(rt; text.len() == 70_070);
     scans(&rt, rt.alloc(), &text, 3, 70_070)?;
-    scans(&rt, rt.alloc(), &text[..70_060], 2, 70_047)?;
-    scans(&rt, rt.alloc(), &text[..23], 0, 0)?;
     text[60_000] = 8;
     scans(&rt, rt.alloc(), &text, 1, 24)?;
+    text[60_000] = 7;
+    text.truncate(70_060);
+    scans(&rt, rt.alloc(), &text, 2, 70_047)?;
+    text.truncate(23);
+    scans(&rt, rt.alloc(), &text, 0, 0)?;
     Ok(())
 }
 
@@ -100,5 +106,9 @@ fn a_read_that_fails_is_told(rt: HostRuntime) -> Result<(), Fail> {
     assert_eq!(rt; scan.next(&mut view).err(), Some(ScanError::Read));
     assert_eq!(rt; scan.place(), 0);
     assert_eq!(rt; scan.file(), FileId(1));
+    let mut view = disk.view(FILE, 0, len)?;
+    let mut scan = Scan::new(rt.alloc(), FileId(1), len);
+    let writes = all_of(&mut scan, rt.alloc(), &mut view)?;
+    assert_eq!(rt; writes.len(), 3);
     Ok(())
 }

@@ -2,13 +2,13 @@ use Rattle.std.proofs.Common.{◌≡◌, ◌+◌, ◌++◌, IsTrue, length}
 use Rattle.bk_files.specs.Scan.{AreFirst, GoesWith, file_len}
 use Rattle.bk_files.proofs.scan_tests.all_of.Given as goal
 
-abbrev pub invariant-loop-found : goal.invariant-loop-found
-invariant-loop-found g l = record {
+abbrev pub invariant-loop-writes : goal.invariant-loop-writes
+invariant-loop-writes g l = record {
   goes : GoesWith g.V.View.tells (g.V.View.left l.view) (g.V.View.rest l.view) l.scan;
   len : file_len l.scan ≡ file_len l.initial.scan;
   first : IsTrue g.V.View.tells
       → AreFirst (l.initial.scan.held ++ g.V.View.left l.initial.view) l.writes.items l.scan.place (l.scan.held ++ g.V.View.left l.view);
 }
 
-abbrev pub decreases-loop-found : goal.decreases-loop-found
-decreases-loop-found g l = length l.scan.held + l.scan.unread
+abbrev pub decreases-loop-writes : goal.decreases-loop-writes
+decreases-loop-writes g l = length l.scan.held + l.scan.unread

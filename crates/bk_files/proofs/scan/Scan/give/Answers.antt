@@ -35,6 +35,6 @@ returns-clause-len c =
     let is : IsDecoded c.held.result.now c.in-Some.decoded = rw c.in-Some.is at c.in_ok-decoded.ensures in
     let held : c.held.result.now ≡ drop from items = c.held.ensures ∙ ap (λ (s : Scanned). s.held) (sym c.self.view_is) in
     let same : c.self.inside.place + c.from.result + length (drop (from + c.in-Some.decoded.size) items) + c.self.inside.unread
-        ≡ c.self.inside.place + length (drop from items) + c.self.inside.unread =
+    ≡ c.self.inside.place + length (drop from items) + c.self.inside.unread =
     omega (arith, decoded_within c.held.result.now c.in-Some.decoded is, ap length held, length-drop from items, length-drop (from + c.in-Some.decoded.size) items, c.from.ensures, c.self.invariant.0) in
     same ∙ ap file_len c.self.view_is
