@@ -40,8 +40,8 @@ IsHopeless bytes = (left : List ℕ) → NoRecord (bytes ++ left)
 pub record IsNeeded (bytes : List ℕ) (n : ℕ) : Type 0 where
   pub bound : n ≤ largest
   pub least : (left : List ℕ) (w : Write) (rest : List ℕ) → RecordStands (bytes ++ left) w rest → n ≤ size_of w
-  pub whole : n ≤ length bytes → (left : List ℕ) (w : Write) (rest : List ℕ) → RecordStands (bytes ++ left) w rest
-      → size_of w ≤ length bytes
+  pub whole : n ≤ length bytes → (left : List ℕ) (w : Write) (rest : List ℕ)
+      → RecordStands (bytes ++ left) w rest → size_of w ≤ length bytes
 
 -- However the file goes on, by so many bytes, a record at its front is held whole.
 abbrev pub IsSettled : List ℕ → ℕ → Type 0
@@ -54,17 +54,25 @@ Finds (Some f) text rest = RecordStands text f.write rest
 Finds None text rest = NoRecord text × (rest ≡ text)
 
 -- what was found says its place, its size and its checksum, and the scan goes on behind it
+pub record IsFound (f : Found) (before now : ℕ) : Type 0 where
+  pub fits : IsWritable f.write
+  pub at : f.at ≡ before
+  pub size : f.size ≡ size_of f.write
+  pub crc : f.crc ≡ checksum_of f.write
+  pub behind : now ≡ before + f.size
+
 abbrev pub Placed : Option Found → ℕ → ℕ → Type 0
-Placed (Some f) before now = (f.at ≡ before) × (now ≡ before + f.size) × (f.size ≡ size_of f.write) × (f.crc ≡ checksum_of f.write)
+Placed (Some f) before now = IsFound f before now
 Placed None before now = now ≡ before
 
--- What the scan hasn't read is what the view has left: the scan goes on through this view.
-pub record GoesWith (tells : Bool) (bytes : List ℕ) (size : ℕ) (s : Scanned) : Type 0 where
-  pub rest : size ≡ s.unread
-  pub left : IsTrue tells → length bytes ≡ s.unread
+-- a view tells the bytes that it has left, and they are as many as it says
+pub record IsTold (tells : Bool) (bytes : List ℕ) (size : ℕ) : Type 0 where
+  pub shown : IsTrue tells
+  pub whole : length bytes ≡ size
 
 -- a view's count of faults doesn't fall, and a read failed only where it rose and the view is weak
-pub record HasReadCause {T : Type 0} (before now : ℕ) (was_weak is_weak : Bool) (result : Result T ScanError) : Type 0 where
+pub record HasReadCause {T : Type 0} (before now : ℕ) (was_weak is_weak : Bool) (result : Result T ScanError)
+    : Type 0 where
   pub later : before ≤ now
   pub weak : is_weak ≡ was_weak
   pub failed : IsErrOf result Read → Rose before now × (was_weak ≡ true)

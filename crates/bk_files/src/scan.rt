@@ -3,7 +3,7 @@ ghost use Rattle.std.specs.Prelude.{◌≡◌, ◌+◌, ◌<◌, ◌≤◌, ◌+
 ghost use Rattle.bk_base.specs.declared.writes.Write.{Write as AnyWrite};
 ghost use Rattle.bk_laws.specs.Record.{AreRecords, NoRecord, RecordStands, size_of};
 ghost use Rattle.bk_record.specs.Stops.{IsDecoded};
-ghost use Rattle.bk_files.specs.Scan.{AreFirst, Finds, GoesWith, HasReadCause, IsHopeless, IsNeeded, IsSettled, Placed, file_len, largest};
+ghost use Rattle.bk_files.specs.Scan.{AreFirst, Finds, HasReadCause, IsHopeless, IsNeeded, IsSettled, IsTold, Placed, file_len, largest};
 ghost use Rattle.bk_files.specs.declared.scan.ScanError.TheVariants.{Memory as no_memory};
 
 use bk_base::{FileId, Memory, Write};
@@ -59,7 +59,12 @@ impl Model for Scan {
 
     ghost Value = { Scanned };
 
-    ghost view = { λ s. record { held = drop s.from s.bytes.items; place = s.place; unread = s.unread; file = s.file } };
+    ghost view = { λ s. record {
+      held = drop s.from s.bytes.items;
+      place = s.place;
+      unread = s.unread;
+      file = s.file;
+    } };
 
     ghost invariant = { λ s. (s.from ≤ length s.bytes.items) × (length s.bytes.items ≤ most_held)
         × (s.place + (length s.bytes.items - s.from) + s.unread < 2 ^ 64) };
@@ -100,17 +105,21 @@ impl Scan {
     ///
     /// After an error the same record is still to be found.
     pub fn next<V: View>(&mut self, view: &mut V) -> Result<Option<Found>, ScanError>
-        requires { GoesWith V.tells (V.left view.old) (V.rest view.old) self.old }
-        ensures found { IsTrue V.tells → IfOk result (λ found. Finds found
-            (self.old.held ++ V.left view.old) (self.new.held ++ V.left view.new)) }
+        requires { V.rest view.old ≡ self.old.unread }
+        ensures found { IsTold V.tells (V.left view.old) (V.rest view.old)
+            → IfOk result (λ found. Finds found (self.old.held ++ V.left view.old)
+            (self.new.held ++ V.left view.new)) }
         ensures placed { IfOk result (λ found. Placed found self.old.place self.new.place) }
-        ensures goes { GoesWith V.tells (V.left view.new) (V.rest view.new) self.new }
+        ensures rest { V.rest view.new ≡ self.new.unread }
+        ensures told { IsTold V.tells (V.left view.old) (V.rest view.old)
+            → IsTold V.tells (V.left view.new) (V.rest view.new) }
         ensures kept { OnErr result (self.new.place ≡ self.old.place) }
         ensures kept_bytes { IsTrue V.tells → OnErr result
             (self.new.held ++ V.left view.new ≡ self.old.held ++ V.left view.old) }
         ensures file { self.new.file ≡ self.old.file }
         ensures len { file_len self.new ≡ file_len self.old }
-        ensures cause { HasReadCause (V.faults view.old) (V.faults view.new) (V.weak view.old) (V.weak view.new) result }
+        ensures cause { HasReadCause (V.faults view.old) (V.faults view.new) (V.weak view.old)
+            (V.weak view.new) result }
     {
         self.fetch(view)?;
         Ok(self.give()?)
@@ -118,15 +127,18 @@ impl Scan {
 
     // Reads until a record that stands at the front is held whole.
     fn fetch<V: View>(&mut self, view: &mut V) -> Result<(), ScanError>
-        requires { GoesWith V.tells (V.left view.old) (V.rest view.old) self.old }
+        requires { V.rest view.old ≡ self.old.unread }
         ensures settled { OnOk result (IsSettled self.new.held self.new.unread) }
         ensures text { IsTrue V.tells →
             self.new.held ++ V.left view.new ≡ self.old.held ++ V.left view.old }
-        ensures goes { GoesWith V.tells (V.left view.new) (V.rest view.new) self.new }
+        ensures rest { V.rest view.new ≡ self.new.unread }
+        ensures told { IsTold V.tells (V.left view.old) (V.rest view.old)
+            → IsTold V.tells (V.left view.new) (V.rest view.new) }
         ensures place { self.new.place ≡ self.old.place }
         ensures file { self.new.file ≡ self.old.file }
         ensures len { file_len self.new ≡ file_len self.old }
-        ensures cause { HasReadCause (V.faults view.old) (V.faults view.new) (V.weak view.old) (V.weak view.new) result }
+        ensures cause { HasReadCause (V.faults view.old) (V.faults view.new) (V.weak view.old)
+            (V.weak view.new) result }
     {
         while self.wants() {
             self.fill(view)?;
@@ -151,15 +163,18 @@ impl Scan {
     fn fill<V: View>(&mut self, view: &mut V) -> Result<(), ScanError>
         requires some { 0 < self.old.unread }
         requires room { length self.old.held < largest }
-        requires goes { GoesWith V.tells (V.left view.old) (V.rest view.old) self.old }
+        requires rest { V.rest view.old ≡ self.old.unread }
         ensures read { OnOk result (self.new.unread < self.old.unread) }
         ensures text { IsTrue V.tells →
             self.new.held ++ V.left view.new ≡ self.old.held ++ V.left view.old }
-        ensures goes { GoesWith V.tells (V.left view.new) (V.rest view.new) self.new }
+        ensures rest { V.rest view.new ≡ self.new.unread }
+        ensures told { IsTold V.tells (V.left view.old) (V.rest view.old)
+            → IsTold V.tells (V.left view.new) (V.rest view.new) }
         ensures place { self.new.place ≡ self.old.place }
         ensures file { self.new.file ≡ self.old.file }
         ensures len { file_len self.new ≡ file_len self.old }
-        ensures cause { HasReadCause (V.faults view.old) (V.faults view.new) (V.weak view.old) (V.weak view.new) result }
+        ensures cause { HasReadCause (V.faults view.old) (V.faults view.new) (V.weak view.old)
+            (V.weak view.new) result }
     {
         drop_given(&mut self.bytes, self.from);
         self.from = 0;
@@ -249,15 +264,16 @@ fn read_piece<V: View>(view: &mut V, unread: u64, bytes: &mut Vec<u8>) -> Result
     requires some { 0 < unread }
     requires room { length bytes.old.items < largest }
     requires rest { V.rest view.old ≡ unread }
-    requires left { IsTrue V.tells → length (V.left view.old) ≡ unread }
     ensures some { IfOk result (λ n. (0 < n) × (n ≤ 65536)) }
     ensures len { IfOk result (λ n. length bytes.new.items ≡ length bytes.old.items + n) }
     ensures rest { IfOk result (λ n. V.rest view.new + n ≡ unread) }
     ensures text { IsTrue V.tells → IfOk result (λ n.
-        (bytes.new.items ≡ bytes.old.items ++ take n (V.left view.old)) × (V.left view.new ≡ drop n (V.left view.old))) }
+        (bytes.new.items ≡ bytes.old.items ++ take n (V.left view.old))
+        × (V.left view.new ≡ drop n (V.left view.old))) }
     ensures kept { OnErr result ((bytes.new.items ≡ bytes.old.items) × (V.rest view.new ≡ unread)) }
     ensures kept_left { IsTrue V.tells → OnErr result (V.left view.new ≡ V.left view.old) }
-    ensures cause { HasReadCause (V.faults view.old) (V.faults view.new) (V.weak view.old) (V.weak view.new) result }
+    ensures cause { HasReadCause (V.faults view.old) (V.faults view.new) (V.weak view.old)
+        (V.weak view.new) result }
 {
     let held = bytes.len();
     bytes.resize(held + unread.min(PIECE) as usize, 0)?;
@@ -299,8 +315,9 @@ pub fn records_go_on()
 /// The same for a loop: what it has found so far are the first records, and in the end all of them.
 pub fn first_records()
     ensures none_yet { (text : List ℕ) → AreFirst text [] 0 text }
-    ensures one_more { (text : List ℕ) (ws : List AnyWrite) (end : ℕ) (rest : List ℕ) (w : AnyWrite) (left : List ℕ) →
-        AreFirst text ws end rest → RecordStands rest w left → AreFirst text (ws ++ w ∷ []) (end + size_of w) left }
+    ensures one_more { (text : List ℕ) (ws : List AnyWrite) (end : ℕ) (rest : List ℕ) (w : AnyWrite) →
+        (left : List ℕ) → AreFirst text ws end rest → RecordStands rest w left →
+        AreFirst text (ws ++ w ∷ []) (end + size_of w) left }
     ensures all { (text : List ℕ) (ws : List AnyWrite) (end : ℕ) (rest : List ℕ) →
         AreFirst text ws end rest → NoRecord rest → AreRecords text ws }
 {}

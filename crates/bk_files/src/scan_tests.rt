@@ -1,7 +1,7 @@
 //! A scan over a disk in memory: what it finds of a file that is whole, changed or cut.
-ghost use Rattle.std.specs.Prelude.{◌≡◌, ◌≤◌, ◌++◌, length, IsTrue, IfOk};
+ghost use Rattle.std.specs.Prelude.{◌≡◌, ◌≤◌, ◌++◌, length, IfOk};
 ghost use Rattle.bk_laws.specs.Record.{AreRecords, records_of};
-ghost use Rattle.bk_files.specs.Scan.{GoesWith};
+ghost use Rattle.bk_files.specs.Scan.{IsTold};
 
 use crate::{Scan, ScanError};
 use bk_base::{Body, FileId, Key, Kind, Moment, Name, Seq, Value, Write};
@@ -65,11 +65,11 @@ fn scans(rt: &impl Abort, alloc: Global, bytes: &[u8], count: usize, end: u64) -
 
 // All that a scan finds from the front of a file.
 fn all_of<V: View>(scan: &mut Scan, alloc: Global, view: &mut V) -> Result<Vec<Write>, Fail>
-    requires goes { GoesWith V.tells (V.left view.old) (V.rest view.old) scan.old }
+    requires rest { V.rest view.old ≡ scan.old.unread }
     requires front { scan.old.place ≡ 0 }
-    ensures writes { IsTrue V.tells → IfOk result
+    ensures writes { IsTold V.tells (V.left view.old) (V.rest view.old) → IfOk result
         (λ writes. AreRecords (scan.old.held ++ V.left view.old) writes.items) }
-    ensures end { IsTrue V.tells → IfOk result
+    ensures end { IsTold V.tells (V.left view.old) (V.rest view.old) → IfOk result
         (λ writes. scan.new.place ≡ length (records_of writes.items)) }
 {
     let mut writes = Vec::new(alloc);
