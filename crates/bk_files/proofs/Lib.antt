@@ -1,3 +1,5 @@
+pub mod FirstRecords
 pub mod RowEdits
 pub mod Rows
 pub mod Standing
+pub mod Scanning

@@ -2,3 +2,4 @@ pub mod Catalog
 pub mod Rows
 pub mod Files
 pub mod Refusal
+pub mod Scan

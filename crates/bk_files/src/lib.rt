@@ -5,10 +5,14 @@
 mod catalog;
 mod files;
 mod refusals;
+mod scan;
 
 pub use catalog::{Active, Catalog};
 pub use files::Files;
 pub use refusals::RollError;
+pub use scan::{Found, Scan, ScanError, first_records, records_go_on};
 
+#[cfg(test)]
+mod scan_tests;
 #[cfg(test)]
 mod tests;

@@ -1,0 +1,19 @@
+use Rattle.std.proofs.Common.{◌≡◌, ◌++◌, ◌≤◌, IsTrue}
+use Rattle.bk_files.specs.Scan.{IsTold, file_len}
+use Rattle.bk_files.proofs.scan.Scan.fetch.Given as goal
+
+abbrev pub invariant-loop-self : goal.invariant-loop-self
+invariant-loop-self g l = record {
+  text : IsTrue g.V.View.tells → l.self.held ++ g.V.View.left l.view ≡ l.initial.self.held ++ g.V.View.left l.initial.view;
+  rest : g.V.View.rest l.view ≡ l.self.unread;
+  told : IsTold g.V.View.tells (g.V.View.left l.initial.view) (g.V.View.rest l.initial.view)
+      → IsTold g.V.View.tells (g.V.View.left l.view) (g.V.View.rest l.view);
+  place : l.self.place ≡ l.initial.self.place;
+  file : l.self.file ≡ l.initial.self.file;
+  len : file_len l.self ≡ file_len l.initial.self;
+  later : g.V.View.faults l.initial.view ≤ g.V.View.faults l.view;
+  weak : g.V.View.weak l.view ≡ g.V.View.weak l.initial.view;
+}
+
+abbrev pub decreases-loop-self : goal.decreases-loop-self
+decreases-loop-self g l = l.self.unread
