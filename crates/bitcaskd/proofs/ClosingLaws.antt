@@ -28,7 +28,7 @@ opening_of start = record {
   log = [];
   folds = [];
   glance = no_glance;
-  settings = record { dead_bytes = 0; max_file = 0; ttl = 0; dead_percent = 0 };
+  settings = record { dead_bytes = 0; max_file = 67108864; ttl = 0; dead_percent = 0 };
   faults = start.site.faults;
   views = start.site.views;
   outs = 0;
@@ -115,7 +115,7 @@ synced_run tells start now site status s listed stands closes image later views 
       [],
       leads_on (steps_of (all_turns s.talk)) log (sync_step now.site (site.faults - now.site.faults)) log leads (record { legal = holds.last; state = refl }),
       omega arith,
-      rw (image t) (image_of now.site.told now.site.index log [] holds),
+      rw (image t) (image_of now.site.told now.site.catalog now.site.index log [] holds),
     ))
     (with_step start.site now.site site (steps_of (all_turns s.talk)) (sync_step now.site (site.faults - now.site.faults)) s.counts (inl (omega arith)) views refl)
     (closes (site.faults - now.site.faults)) s.reads (λ out w. w) most moments
@@ -137,7 +137,7 @@ failed_run tells start now site status result s listed stands n closes counted i
       [],
       leads_on (steps_of (all_turns s.talk)) log (quiet_step n) log leads (record { legal = tt; state = refl }),
       omega arith,
-      rw (image t) (image_of now.site.told now.site.index log [] holds),
+      rw (image t) (image_of now.site.told now.site.catalog now.site.index log [] holds),
     ))
     (with_step start.site now.site site (steps_of (all_turns s.talk)) (quiet_step n) s.counts counted views refl)
     closes reads writes most moments
@@ -271,9 +271,9 @@ was_sink tells status result t before now closes is = go (same_or_disk tells sta
     go (inr failed) = absurd (cc (failed.0, is))
 
 -- a talk that ended so left the store standing
-pub stood : (tells : Telling) (start now : Scene) (status : Status) → Stopped tells start now status → IsSyncedAt status → IsTrue tells.disk → Stands now.site.told now.site.index
+pub stood : (tells : Telling) (start now : Scene) (status : Status) → Stopped tells start now status → IsSyncedAt status → IsTrue tells.disk → Stands now.site.told now.site.catalog now.site.index
 stood tells start now status s is t = go is (s.ends t)
   where
-    go : IsSyncedAt status → EndsAt status now.site (steps_of (all_turns s.talk)) → Stands now.site.told now.site.index
+    go : IsSyncedAt status → EndsAt status now.site (steps_of (all_turns s.talk)) → Stands now.site.told now.site.catalog now.site.index
     go (inl e) ends = let (log, leads, holds) = subst (λ (st : Status). EndsAt st now.site (steps_of (all_turns s.talk))) e ends in (log, holds)
     go (inr e) ends = let (log, leads, holds) = subst (λ (st : Status). EndsAt st now.site (steps_of (all_turns s.talk))) e ends in (log, holds)

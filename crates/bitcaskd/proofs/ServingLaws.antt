@@ -1,5 +1,5 @@
 -- What serving a request adds to the history.
-use Rattle.std.proofs.Common.{◌≡◌, ℕ, ◌+◌, ◌-◌, ◌*◌, ◌≤◌, List, [], ◌∷◌, ◌++◌, length, Bool, false, Option, Some, None, refl, sym, arith, inl, inr, IsTrue}
+use Rattle.std.proofs.Common.{◌≡◌, ℕ, ◌+◌, ◌-◌, ◌*◌, ◌≤◌, List, [], ◌∷◌, ◌++◌, length, Bool, false, Option, Some, None, refl, sym, ap, arith, inl, inr, IsTrue}
 use Rattle.std.proofs.lemmas.List.{length-append}
 use Rattle.bk_base.specs.declared.numbers.Moment.{Moment}
 use Rattle.bk_base.specs.declared.numbers.Seq.{Seq}
@@ -20,8 +20,11 @@ use Rattle.bk_laws.specs.Session.{ShowsGet, Serves, call_of, named}
 use Rattle.bk_laws.specs.Wire.{request_text}
 use Rattle.bitcaskd.specs.Counts.{Counted, Counts}
 use Rattle.bitcaskd.specs.Serving.{Site, Leads, Served, Refused}
-use Rattle.bitcaskd.specs.Store.{Holds, IsImageOf, PutDone, GetDone, put_of}
-use Rattle.bitcaskd.proofs.StoreLaws.{kept, image_of}
+use Rattle.bitcaskd.specs.Store.{Holds, IsImageOf, KeepsLog, PutDone, GetDone, put_of}
+use Rattle.bk_files.specs.declared.catalog.Catalog.{Catalog}
+use Rattle.bitcaskd.specs.Shelf.{FitsWithin}
+use Rattle.bitcaskd.proofs.ShelfLaws.{fits_more}
+use Rattle.bitcaskd.proofs.StoreLaws.{image_of}
 
 -- the first path keeps no rows and no merges: its glances are empty
 pub no_glance : Glance
@@ -46,11 +49,11 @@ get-leads log key now (Some value) faults views is = record { legal = sym is; st
 pub get-served : (dt ct : Bool) (key : List ℕ) (now : Moment) (found : Option (List ℕ)) (reply : Reply) (old new : Site)
     → ShowsGet (answer_of found) reply
     → (IsTrue ct → now ≡ first_moment old.moments) → (IsTrue ct → new.moments ≡ later_moments old.moments)
-    → new.index ≡ old.index → (IsTrue dt → new.told.image ≡ old.told.image) → (IsTrue dt → new.told.fronts ≡ old.told.fronts)
-    → (IsTrue dt → GetDone old.told old.index key found)
+    → (IsTrue dt → KeepsLog old.told old.catalog old.index new.told new.catalog new.index)
+    → (IsTrue dt → GetDone old.told old.catalog old.index key found)
     → old.faults ≤ new.faults → Counts old.views new.views
     → Served dt ct (Get key) reply old new
-get-served dt ct key now found reply old new shows first later index image fronts done faults views = record {
+get-served dt ct key now found reply old new shows first later keeps done faults views = record {
   now = now;
   step = step_of (record { caller = 0; call = get_call key now; reply = answer_of found }) (new.faults - old.faults) views.0;
   serves = (refl, shows);
@@ -58,14 +61,14 @@ get-served dt ct key now found reply old new shows first later index image front
   goes = λ tells log h. (
     log,
     get-leads log key now found (new.faults - old.faults) views.0 (done tells log now.0 h),
-    kept old.told new.told old.index new.index log h index (image tells) (fronts tells),
+    keeps tells log h,
   );
   counts = record { faults = rise old.faults new.faults faults; views = views.1 };
 }
 
 pub put-served : (dt ct : Bool) (key value : List ℕ) (seq : Seq) (now : Moment) (old new : Site)
     → (IsTrue ct → now ≡ first_moment old.moments) → (IsTrue ct → new.moments ≡ later_moments old.moments)
-    → (IsTrue dt → PutDone old.told old.index new.told new.index (put_of seq now key value))
+    → (IsTrue dt → PutDone old.told old.catalog old.index new.told new.catalog new.index (put_of seq now key value))
     → old.faults ≤ new.faults → new.views ≡ old.views
     → Served dt ct (Put key value) (Numbered seq) old new
 put-served dt ct key value seq now old new first later done faults views = record {
@@ -80,7 +83,7 @@ put-served dt ct key value seq now old new first later done faults views = recor
 -- a call that was refused adds a step that says nothing
 pub refused : (dt ct : Bool) (request : Request) (now : Moment) (old new : Site)
     → (IsTrue ct → now ≡ first_moment old.moments) → (IsTrue ct → new.moments ≡ later_moments old.moments)
-    → (IsTrue dt → (log : List Write) → Holds old.told old.index log → (tried : List Write) × (length tried ≤ 1) × IsImageOf new.told.image log tried)
+    → (IsTrue dt → (log : List Write) → Holds old.told old.catalog old.index log → (tried : List Write) × (length tried ≤ 1) × IsImageOf new.told.image log tried)
     → old.faults ≤ new.faults → Counts old.views new.views
     → Refused dt ct request old new
 refused dt ct request now old new first later left faults views = record {
@@ -110,11 +113,19 @@ cut_off dt ct request reply old new s = record {
   made = inr (one_call request s.now reply (named 0 (s.step ∷ [])) s.serves);
   ticks = s.ticks;
   leaves = λ tells log h. let (later, leads, holds) = s.goes tells log h in
-      (later, [], leads, omega arith, image_of new.told new.index later [] holds);
+      (later, [], leads, omega arith, image_of new.told new.catalog new.index later [] holds);
   counts = s.counts;
 }
 
 -- the record of a put is no longer than 23 times its request
-pub put-small : (key value : List ℕ) → 22 + length key + length value ≤ 23 * length (request_text (Put key value))
+put-small : (key value : List ℕ) → 22 + length key + length value ≤ 23 * length (request_text (Put key value))
 unfolding request_text
 put-small key value = simp length-append (omega arith)
+
+-- so the files after a put are no more than its request allows
+pub put-fits : (key value : List ℕ) (request : Request) (c d : Catalog) → request ≡ Put key value
+    → ((most : ℕ) → FitsWithin most c → FitsWithin (most + 2 * (22 + length key + length value)) d)
+    → (most : ℕ) → FitsWithin most c → FitsWithin (most + 46 * length (request_text request)) d
+put-fits key value request c d is more most h =
+    fits_more (most + 2 * (22 + length key + length value)) (most + 46 * length (request_text request)) d
+    (omega (arith, ap (λ (r : Request). length (request_text r)) is, put-small key value)) (more most h)

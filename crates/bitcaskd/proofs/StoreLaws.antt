@@ -1,10 +1,9 @@
--- What one more record does to the file, the log and the table.
-use Rattle.std.proofs.Common.{◌≡◌, ◌∙◌, ℕ, ◌+◌, ◌-◌, ◌≤◌, List, [], ◌∷◌, ◌++◌, length, take, drop, map, Bool, true, false, cond, unwrap_or, Option, Some, None, Result, Ok, Err, OnErr, refl, sym, ap, subst, arith, inl, inr, append_assoc, IsSome, IsSomeAnd}
-use Rattle.std.proofs.lemmas.Grind.{common_steps}
+-- What one more record does to the log and the table.
+use Rattle.std.proofs.Common.{◌≡◌, ◌∙◌, ℕ, ◌+◌, ◌-◌, ◌<◌, ◌≤◌, ◌⊎◌, List, [], ◌∷◌, ◌++◌, length, take, drop, Bool, true, false, cond, Option, Some, None, is_some, refl, sym, ap, subst, arith, inl, inr, append_assoc}
+use Rattle.std.proofs.lemmas.Bool.{cases_lt}
 use Rattle.std.specs.Int.{w32, to_be_bytes}
 use Rattle.std.specs.Str.{bytes_eq}
-use Rattle.std.proofs.lemmas.List.Concat.{flat_map-append}
-use Rattle.std.proofs.lemmas.List.{append-nil, take-append-le, take-take, drop-append-le, length-append, length-drop}
+use Rattle.std.proofs.lemmas.List.{append-nil, take-append-le, take-take, drop-append-le, drop-drop, length-append, length-drop}
 use Rattle.std.proofs.lemmas.List.{length-take-le}
 use Rattle.std.proofs.lemmas.Slice.{take-put_mid}
 use borrow.Rule.Slice.PartMut.{put_mid}
@@ -13,23 +12,21 @@ use Rattle.bk_base.specs.declared.numbers.Moment.{Moment}
 use Rattle.bk_base.specs.declared.numbers.Seq.{Seq}
 use Rattle.bk_base.specs.declared.writes.Write.{Write}
 use Rattle.bk_base.specs.declared.writes.Body.TheVariants.{Put}
-use Rattle.bk_disk.specs.Told.{Table, Image, Front, Told, IsWell, names, changed, at, bytes_of, IsOurs}
-use Rattle.bk_disk.specs.Calls.{Appended, Synced, all_safe, fresh, handed_more}
-use Rattle.bk_disk.specs.Names.{same}
-use Rattle.bk_disk.specs.Stops.{IsSynced, front_of}
+use Rattle.bk_disk.specs.Told.{Table, Image, Told, IsWell, at, names, bytes_of}
+use Rattle.bk_disk.specs.Causes.{bumped, most}
+use Rattle.bk_disk.specs.Stops.{IsSynced}
+use Rattle.bk_files.specs.declared.catalog.Catalog.{Catalog}
+use Rattle.bk_files.specs.Catalog.{main}
+use Rattle.bk_files.specs.Files.{HalfRepaired, Repaired, Settled, Synchronized}
+use Rattle.bk_files.specs.Files.{Stands as FilesStand}
 use Rattle.bk_laws.specs.Log.{winner, or_else, seq_after}
 use Rattle.bk_laws.specs.Record.{record_of, records_of, covered_of, fields_of, checksum_of, size_of}
 use Rattle.bitcaskd.specs.declared.index.Index.{Index}
-use Rattle.bitcaskd.specs.Index.{look, AddsPlace, SamePlaces}
-use Rattle.bitcaskd.specs.Store.{data_name, files_of, HasValueAt, PlaceStands, Holds, IsImageOf, AppendsPart, put_of}
-
--- whatever a call answered, a fact of its refusal
-pub on_err : {T E : Type 0} {P : Type 0} (r : Result T E) → P → OnErr r P
-on_err (Ok x) p = tt
-on_err (Err e) p = p
-
-pub records_of-snoc : (log : List Write) (w : Write) → records_of (log ++ w ∷ []) ≡ records_of log ++ record_of w
-records_of-snoc log w = flat_map-append record_of log (w ∷ []) ∙ ap (λ t. records_of log ++ t) (append-nil (record_of w))
+use Rattle.bitcaskd.specs.Counts.{Counts}
+use Rattle.bitcaskd.specs.Index.{Seat, look, AddsPlace, SamePlaces}
+use Rattle.bitcaskd.specs.Shelf.{Shelf, Extends, IsLeft, IsOn, filed, filed_from, max_file, place_for, put_on}
+use Rattle.bitcaskd.specs.Store.{HasValueAt, PlaceStands, Holds, IsImageOf, put_of}
+use Rattle.bitcaskd.proofs.ShelfLaws.{half_repaired_on, image_on, repaired_on, settled_on, still_on}
 
 or_else-none : (a : Option Write) → or_else a None ≡ a
 or_else-none None = refl
@@ -49,6 +46,11 @@ pub seq_after-snoc : (n : ℕ) (log : List Write) (w : Write) → seq_after n (l
 seq_after-snoc n [] w = refl
 seq_after-snoc n (x ∷ xs) w = seq_after-snoc x.seq.0 xs w
 
+-- the next write goes onto the shelf of those before it
+filed-snoc : (s : Shelf) (log : List Write) (w : Write) → filed_from s (log ++ w ∷ []) ≡ put_on w (place_for (size_of w) (filed_from s log))
+filed-snoc s [] w = refl
+filed-snoc s (x ∷ xs) w = filed-snoc (put_on x (place_for (size_of x) s)) xs w
+
 -- a value stands where it stood when more bytes follow
 take-drop-append : (bytes more : List ℕ) (from n : ℕ) → from + n ≤ length bytes → take n (drop from (bytes ++ more)) ≡ take n (drop from bytes)
 take-drop-append bytes more from n inside =
@@ -56,24 +58,19 @@ take-drop-append bytes more from n inside =
     let fits : n ≤ length (drop from bytes) = simp (length-drop) (omega arith) in
     rw (drop-append-le from bytes more low) (take-append-le n (drop from bytes) more fits)
 
-value-later : (bytes more : List ℕ) (place : ℕ × ℕ) (w : Write) → HasValueAt bytes place w → HasValueAt (bytes ++ more) place w
-value-later bytes more place w h = record {
-  inside = omega (arith, length-append bytes more, h.inside);
-  value = h.value ∙ ap (λ v. Put v) (sym (take-drop-append bytes more place.0 place.1 h.inside));
-}
+value-later : (i j : Image) (s : Seat) (w : Write) → Extends i j → HasValueAt i s w → HasValueAt j s w
+value-later i j s w more h =
+    let (rest, is) = more (main s.file) in
+    record {
+      inside = omega (arith, ap length is, length-append (bytes_of (main s.file) i) rest, h.inside);
+      value = h.value ∙ ap (λ v. Put v) (sym (ap (λ (l : List ℕ). take s.len (drop s.at l)) is ∙ take-drop-append (bytes_of (main s.file) i) rest s.at s.len h.inside));
+    }
 
-place-later : (bytes more : List ℕ) (place : Option (ℕ × ℕ)) (w : Option Write) → PlaceStands bytes place w → PlaceStands (bytes ++ more) place w
-place-later bytes more None None h = tt
-place-later bytes more None (Some w) h = h
-place-later bytes more (Some p) None h = h
-place-later bytes more (Some p) (Some w) h = value-later bytes more p w h
-
--- the value of a put stands at the end of its record
-value-at_end : (before front value : List ℕ)
-    → take (length value) (drop (length before + length (front ++ value) - length value) (before ++ (front ++ value))) ≡ value
-value-at_end before front value =
-    let at_end : length before + length (front ++ value) - length value ≡ length before + (length front + 0) = omega (arith, length-append front value) in
-    rw (at_end, drop-append-add before (front ++ value) (length front + 0), drop-append-add front value 0) (take-length value)
+place-later : (i j : Image) (s : Option Seat) (w : Option Write) → Extends i j → PlaceStands i s w → PlaceStands j s w
+place-later i j None None more h = tt
+place-later i j None (Some w) more h = h
+place-later i j (Some s) None more h = h
+place-later i j (Some s) (Some w) more h = value-later i j s w more h
 
 -- the record of a put is its header and key, and then the value
 put-split : (seq : Seq) (now : Moment) (key value : List ℕ) → (front : List ℕ) × (record_of (put_of seq now key value) ≡ front ++ value)
@@ -87,130 +84,81 @@ pub length-record_of : (w : Write) → length (record_of w) ≡ size_of w
 unfolding record_of covered_of fields_of
 length-record_of w = simp length-append (omega arith)
 
-pub changed-files_of : {X : Type 0} (f : X → X) (x : X) → changed data_name f (files_of true x) ≡ files_of true (f x)
-unfolding same
-changed-files_of f x = refl
-
-pub at-files_of : {X : Type 0} (x : X) → at (files_of true x) data_name ≡ Some x
-unfolding same
-at-files_of x = refl
-
-pub reindexed : (t : Told) (x y : Index) (log : List Write) → Holds t x log → SamePlaces x y → y.end ≡ x.end → y.last ≡ x.last → y.made ≡ x.made → Holds t y log
-reindexed t x y log h places end last made = record {
-  image = h.image ∙ ap (λ b. files_of b (records_of log)) (sym made);
-  front = h.front;
-  fronts = h.fronts ∙ ap (λ b. files_of b h.front) (sym made);
-  ours = h.ours;
-  unmade = λ no_file. h.unmade (sym made ∙ no_file);
-  end = end ∙ h.end;
-  last = last ∙ h.last;
-  each = λ key. subst (λ place. PlaceStands (records_of log) place (winner log key)) (sym (places key)) (h.each key);
-}
-
-pub is_ours : (t : Told) (x : Index) (log : List Write) → Holds t x log → x.made ≡ true → IsOurs data_name t
-is_ours t x log h made =
-    let image : t.image ≡ files_of true (records_of log) = h.image ∙ ap (λ b. files_of b (records_of log)) made in
-    let fronts : t.fronts ≡ files_of true h.front = h.fronts ∙ ap (λ b. files_of b h.front) made in (
-      subst (λ (o : Option (List ℕ)). IsSome o) (sym (ap (λ i. at i data_name) image ∙ at-files_of (records_of log))) refl,
-      subst (λ (o : Option Front). IsSomeAnd o (λ f. f.lent ≡ false)) (sym (ap (λ i. at i data_name) fronts ∙ at-files_of h.front)) h.ours,
+-- the value of a put stands at the end of its record, wherever that is
+value-written : (bytes text front value : List ℕ) (at from : ℕ) → drop at bytes ≡ text → 0 < length text → text ≡ front ++ value → from + length value ≡ at + length text
+    → (from + length value ≤ length bytes) × (take (length value) (drop from bytes) ≡ value)
+value-written bytes text front value at from here some split ends =
+    let long : length text ≡ length front + length value = ap length split ∙ length-append front value in
+    let total : length bytes - at ≡ length text = sym (length-drop at bytes) ∙ ap length here in
+    let is : from ≡ at + length front = omega (arith, long, ends) in (
+      omega (arith, total, some, ends),
+      ap (λ (n : ℕ). take (length value) (drop n bytes)) is
+          ∙ ap (λ (l : List ℕ). take (length value) l) (sym (drop-drop (length front) at bytes) ∙ ap (λ (l : List ℕ). drop (length front) l) (here ∙ split))
+          ∙ ap (λ (n : ℕ). take (length value) (drop n (front ++ value))) (sym (zero-more (length front)))
+          ∙ ap (λ (l : List ℕ). take (length value) l) (drop-append-add front value 0)
+          ∙ take-length value,
     )
-
--- where nothing was tried, any write may have been
-pub untried : (image : Image) (log tried : List Write) → IsImageOf image log [] → IsImageOf image log tried
-untried image log tried (inl none) = inl none
-untried image log tried (inr some) = inr (0, some.1 ∙ ap (λ part. (data_name, records_of log ++ part) ∷ []) (take-nil some.0))
   where
-    take-nil : (n : ℕ) → take n (records_of []) ≡ take 0 (records_of tried)
-    take-nil n = grind (arith, common_steps)
+    zero-more : (n : ℕ) → n + 0 ≡ n
+    zero-more n = omega arith
 
--- a refused append leaves a first part of the record
-pub part-left : (t : Told) (x : Index) (log : List Write) (w : Write) (image : Image) → Holds t x log → x.made ≡ true
-    → AppendsPart (record_of w) t.image image → IsImageOf image log (w ∷ [])
-part-left t x log w image h made part =
-    let old : t.image ≡ files_of true (records_of log) = h.image ∙ ap (λ b. files_of b (records_of log)) made in
-    go part old
-  where
-    go : AppendsPart (record_of w) t.image image → t.image ≡ files_of true (records_of log) → IsImageOf image log (w ∷ [])
-    go (inl same) old = untried image log (w ∷ []) (inr (0, same ∙ old ∙ ap (λ bytes. (data_name, bytes) ∷ []) (sym (append-nil (records_of log)))))
-    go (inr some) old =
-        inr (
-          some.0,
-          some.1 ∙ ap (λ i. changed data_name (λ bytes. bytes ++ take some.0 (record_of w)) i) old
-              ∙ changed-files_of (λ bytes. bytes ++ take some.0 (record_of w)) (records_of log)
-              ∙ ap (λ text. (data_name, records_of log ++ take some.0 text) ∷ []) (sym (append-nil (record_of w))),
-        )
-
--- the places after a put: its own at the end of the file, and the others where they were
-placed : (bytes text key value : List ℕ) (w : Write) (o : Option (ℕ × ℕ)) (q : Option Write) (b : Bool)
-    → w.body ≡ Put value → (front : List ℕ) × (text ≡ front ++ value) → PlaceStands bytes o q
-    → PlaceStands (bytes ++ text) (cond b (Some (length bytes + length text - length value, length value)) o) (or_else (cond b (Some w) None) q)
-placed bytes text key value w o q false body split old = place-later bytes text o q old
-placed bytes text key value w o q true body split old =
-    let long : length value ≤ length text = omega (arith, ap length split.1, length-append split.0 value) in
+-- the places after a put: its own at the end of its record, and the others where they were
+placed : (i j : Image) (text value : List ℕ) (at : ℕ) (here : Seat) (w : Write) (o : Option Seat) (q : Option Write) (b : Bool)
+    → Extends i j → drop at (bytes_of (main here.file) j) ≡ text → 0 < length text → w.body ≡ Put value → (front : List ℕ) × (text ≡ front ++ value)
+    → here.len ≡ length value → here.at + length value ≡ at + length text → PlaceStands i o q
+    → PlaceStands j (cond b (Some here) o) (or_else (cond b (Some w) None) q)
+placed i j text value at here w o q false more written some body split len ends old = place-later i j o q more old
+placed i j text value at here w o q true more written some body split len ends old =
+    let stands = value-written (bytes_of (main here.file) j) text split.0 value at here.at written some split.1 ends in
     record {
-      inside = omega (arith, length-append bytes text);
-      value = body ∙ ap (λ v. Put v) (sym (
-          ap (λ (all : List ℕ). take (length value) (drop (length bytes + length all - length value) (bytes ++ all))) split.1
-          ∙ value-at_end bytes split.0 value));
+      inside = omega (arith, stands.0, len);
+      value = body ∙ ap (λ v. Put v) (sym (ap (λ (n : ℕ). take n (drop here.at (bytes_of (main here.file) j))) len ∙ stands.1));
     }
 
 -- The store after a good append of a put's record, with its place in the table.
-pub put-holds : (t u : Told) (x y : Index) (log : List Write) (seq : Seq) (now : Moment) (key value : List ℕ)
-    → Holds t x log → x.made ≡ true → seq.0 ≡ x.last + 1
-    → Appended data_name (length (record_of (put_of seq now key value))) (record_of (put_of seq now key value)) t u
-    → AddsPlace x y key (x.end + length (record_of (put_of seq now key value))) (length value)
-    → y.end ≡ x.end + length (record_of (put_of seq now key value)) → y.last ≡ x.last + 1 → y.made ≡ x.made
-    → Holds u y (log ++ put_of seq now key value ∷ [])
-put-holds t u x y log seq now key value h made number appended places end last same_made =
+pub put-holds : (t u : Told) (c d : Catalog) (x y : Index) (log : List Write) (seq : Seq) (now : Moment) (key value text : List ℕ) (at : ℕ) (here : Seat)
+    → Holds t c x log → seq.0 ≡ x.last + 1 → text ≡ record_of (put_of seq now key value)
+    → ((s : Shelf) (w : Write) → text ≡ record_of w → IsOn s t c → IsOn (put_on w (place_for (length text) s)) u d)
+    → ((s : Shelf) → IsOn s t c → Extends t.image u.image)
+    → ((s : Shelf) → IsOn s t c → drop at (bytes_of (main d.last.0) u.image) ≡ text)
+    → here.file ≡ d.last.0 → here.len ≡ length value → here.at + length value ≡ at + length text
+    → AddsPlace x y key here → y.last ≡ x.last + 1
+    → Holds u d y (log ++ put_of seq now key value ∷ [])
+put-holds t u c d x y log seq now key value text at here h number is on more written file len ends places last =
     let w = put_of seq now key value in
-    let text = record_of w in
-    let kept : y.made ≡ true = same_made ∙ made in
-    let old_image : t.image ≡ files_of true (records_of log) = h.image ∙ ap (λ b. files_of b (records_of log)) made in
-    let old_fronts : t.fronts ≡ files_of true h.front = h.fronts ∙ ap (λ b. files_of b h.front) made in
-    let more = records_of-snoc log w in
+    let size : length text ≡ size_of w = ap length is ∙ length-record_of w in
+    let filed_next : filed (log ++ w ∷ []) ≡ put_on w (place_for (length text) (filed log)) =
+    filed-snoc (record { sealed = []; newest = [] }) log w ∙ ap (λ (n : ℕ). put_on w (place_for n (filed log))) (sym size) in
+    let split : (front : List ℕ) × (text ≡ front ++ value) = ((put-split seq now key value).0, is ∙ (put-split seq now key value).1) in
+    let stands : drop at (bytes_of (main here.file) u.image) ≡ text = ap (λ (n : ℕ). drop at (bytes_of (main n) u.image)) file ∙ written (filed log) h.is_on in
     record {
-      image = appended.image
-          ∙ ap (λ i. changed data_name (λ bytes. bytes ++ take (length text) text) i) old_image
-          ∙ changed-files_of (λ bytes. bytes ++ take (length text) text) (records_of log)
-          ∙ ap (λ part. files_of true (records_of log ++ part)) (take-length text)
-          ∙ ap (λ bytes. files_of true bytes) (sym more)
-          ∙ ap (λ b. files_of b (records_of (log ++ w ∷ []))) (sym kept);
-      front = handed_more (length (bytes_of data_name t.image ++ take (length text) text)) text h.front;
-      fronts = appended.fronts
-          ∙ ap (λ f. changed data_name (handed_more (length (bytes_of data_name t.image ++ take (length text) text)) text) f) old_fronts
-          ∙ changed-files_of (handed_more (length (bytes_of data_name t.image ++ take (length text) text)) text) h.front
-          ∙ ap (λ b. files_of b (handed_more (length (bytes_of data_name t.image ++ take (length text) text)) text h.front)) (sym kept);
-      ours = h.ours;
-      unmade = λ no_file. absurd (cc (kept, no_file));
-      end = end ∙ ap (λ n. n + length text) h.end ∙ sym (length-append (records_of log) text) ∙ ap length (sym more);
+      is_on = subst (λ (s : Shelf). IsOn s u d) (sym filed_next) (on (filed log) w is h.is_on);
       last = last ∙ sym number ∙ sym (seq_after-snoc 0 log w);
-      each = λ q. subst (λ (bytes : List ℕ). PlaceStands bytes (look y q) (winner (log ++ w ∷ []) q)) (sym more)
-          (subst (λ (place : Option (ℕ × ℕ)). PlaceStands (records_of log ++ text) place (winner (log ++ w ∷ []) q))
-          (sym (places q ∙ ap (λ n. cond (bytes_eq key q) (Some (n + length text - length value, length value)) (look x q)) h.end))
-          (subst (λ (o : Option Write). PlaceStands (records_of log ++ text) (cond (bytes_eq key q) (Some (length (records_of log) + length text - length value, length value)) (look x q)) o)
-          (sym (winner-append log (w ∷ []) q))
-          (placed (records_of log) text key value w (look x q) (winner log q) (bytes_eq key q) refl (put-split seq now key value) (h.each q))));
+      each = λ q. subst (λ (place : Option Seat). PlaceStands u.image place (winner (log ++ w ∷ []) q)) (sym (places q))
+          (subst (λ (o : Option Write). PlaceStands u.image (cond (bytes_eq key q) (Some here) (look x q)) o) (sym (winner-append log (w ∷ []) q))
+          (placed t.image u.image text value at here w (look x q) (winner log q) (bytes_eq key q) (more (filed log) h.is_on) stands (omega (arith, size)) refl split len ends (h.each q)));
     }
 
--- the files of a store hold the records of its log
-pub image_of : (t : Told) (x : Index) (log tried : List Write) → Holds t x log → IsImageOf t.image log tried
-image_of t x log tried h = go x.made h.image h.unmade
-  where
-    go : (b : Bool) → t.image ≡ files_of b (records_of log) → (b ≡ false → log ≡ []) → IsImageOf t.image log tried
-    go true image unmade = untried t.image log tried (inr (0, image ∙ ap (λ bytes. (data_name, bytes) ∷ []) (sym (append-nil (records_of log)))))
-    go false image unmade = inl (image, unmade refl)
+pub reindexed : (t : Told) (c : Catalog) (x y : Index) (log : List Write) → Holds t c x log → SamePlaces x y → y.last ≡ x.last → Holds t c y log
+reindexed t c x y log h places last = record {
+  is_on = h.is_on;
+  last = last ∙ h.last;
+  each = λ key. subst (λ place. PlaceStands t.image place (winner log key)) (sym (places key)) (h.each key);
+}
 
--- what leaves the image, the fronts and the table leaves the store standing
-pub kept : (t u : Told) (x y : Index) (log : List Write) → Holds t x log → y ≡ x → u.image ≡ t.image → u.fronts ≡ t.fronts → Holds u y log
-kept t u x y log h same image fronts = subst (λ i. Holds u i log) (sym same) (record {
-  image = image ∙ h.image;
-  front = h.front;
-  fronts = fronts ∙ h.fronts;
-  ours = h.ours;
-  unmade = h.unmade;
-  end = h.end;
+pub is_on : (t : Told) (c : Catalog) (x : Index) (log : List Write) → Holds t c x log → IsOn (filed log) t c
+is_on t c x log h = h.is_on
+
+-- the files of a store hold the records of its log
+pub image_of : (t : Told) (c : Catalog) (x : Index) (log tried : List Write) → Holds t c x log → IsImageOf t.image log tried
+image_of t c x log tried h = inl (image_on (filed log) t c h.is_on)
+
+-- what leaves the image, the fronts, the files and the table leaves the store standing
+pub kept : (t u : Told) (c d : Catalog) (x y : Index) (log : List Write) → Holds t c x log → y ≡ x → d ≡ c → FilesStand d u → u.image ≡ t.image → u.fronts ≡ t.fronts → Holds u d y log
+kept t u c d x y log h same known stands image fronts = subst (λ i. Holds u d i log) (sym same) (record {
+  is_on = still_on (filed log) t u c d h.is_on stands (ap (λ (k : Catalog). k.max_file) known) (ap (λ (k : Catalog). k.last) known) (ap (λ (k : Catalog). k.active) known) image fronts;
   last = h.last;
-  each = h.each;
+  each = λ key. subst (λ (i : Image). PlaceStands i (look x key) (winner log key)) (sym image) (h.each key);
 })
 
 -- a slice that is filled as far as n bytes behind a, where a read put them
@@ -227,41 +175,49 @@ filled a k n xs ys left within long few same read =
     ∙ ap (λ (l : List ℕ). take a left ++ l) read
     ∙ sym (take-add a n left)
 
--- a store without a file has nothing unsynced
-pub unmade_synced : (t : Told) (x : Index) (log : List Write) → Holds t x log → x.made ≡ false → IsSynced t
-unmade_synced t x log h unmade =
-    let image : t.image ≡ files_of false (records_of log) = h.image ∙ ap (λ b. files_of b (records_of log)) unmade in
-    let fronts : t.fronts ≡ files_of false h.front = h.fronts ∙ ap (λ b. files_of b h.front) unmade in
-    fronts ∙ ap (λ (i : Image). map (λ e. (e.0, front_of e.1)) i) (sym image)
+-- a good sync leaves nothing unsynced
+pub synced_all : (t u : Told) (c : Catalog) (x : Index) (log : List Write) → Holds t c x log → Synchronized c t u → (u.image ≡ t.image) × IsSynced u
+synced_all t u c x log h (m, repaired, settled) =
+    let same : m ≡ t = repaired_on (filed log) t m c h.is_on repaired in
+    settled_on (filed log) t u c h.is_on (subst (λ (y : Told). Settled c y u) same settled)
 
--- after a good sync nothing is unsynced
-pub made_synced : (t u : Told) (x : Index) (log : List Write) → Holds t x log → x.made ≡ true → Synced data_name t u → IsSynced u
-made_synced t u x log h made synced =
-    let image : t.image ≡ files_of true (records_of log) = h.image ∙ ap (λ b. files_of b (records_of log)) made in
-    let fronts : t.fronts ≡ files_of true h.front = h.fronts ∙ ap (λ b. files_of b h.front) made in
-    let bytes : bytes_of data_name t.image ≡ records_of log = ap (λ i. bytes_of data_name i) image ∙ ap (λ (o : Option (List ℕ)). unwrap_or o []) (at-files_of (records_of log)) in
-    synced.fronts
-    ∙ ap (λ f. changed data_name (all_safe (bytes_of data_name t.image)) f) fronts
-    ∙ changed-files_of (all_safe (bytes_of data_name t.image)) h.front
-    ∙ ap (λ (b : List ℕ). files_of true (all_safe b h.front)) bytes
-    ∙ ap (λ (lent : Bool). files_of true (record { safe = records_of log; reach = length (records_of log); handed = []; lent = lent })) h.ours
-    ∙ ap (λ (i : Image). map (λ e. (e.0, front_of e.1)) i) (sym (synced.image ∙ image))
+-- a refused one leaves the image
+pub synced_none : (t u : Told) (c : Catalog) (x : Index) (log : List Write) → Holds t c x log → HalfRepaired c t u ⊎ Repaired c t u → u.image ≡ t.image
+synced_none t u c x log h (inl half) = half_repaired_on (filed log) t u c h.is_on half
+synced_none t u c x log h (inr repaired) = ap (λ (y : Told). y.image) (repaired_on (filed log) t u c h.is_on repaired)
 
 no_names : {X : Type 0} (t : Table X) → names t ≡ [] → t ≡ []
 no_names [] e = refl
 no_names (x ∷ xs) e = absurd (cc e)
 
 -- A disk without files stands for the empty log.
-pub fresh_holds : (t : Told) (x : Index) → t.image ≡ [] → IsWell t → ((key : List ℕ) → look x key ≡ None) → x.end ≡ 0 → x.last ≡ 0 → x.made ≡ false → Holds t x []
-fresh_holds t x empty well places end last unmade =
-    let none : t.fronts ≡ [] = no_names t.fronts (well.paired ∙ ap (λ (i : Image). names i) empty) in
-    record {
-      image = empty ∙ ap (λ b. files_of b (records_of [])) (sym unmade);
-      front = fresh false;
-      fronts = none ∙ ap (λ b. files_of b (fresh false)) (sym unmade);
-      ours = refl;
-      unmade = λ is. refl;
-      end = end;
-      last = last;
-      each = λ key. subst (λ (o : Option (ℕ × ℕ)). PlaceStands [] o None) (sym (places key)) tt;
-    }
+pub fresh_holds : (t : Told) (c : Catalog) (x : Index) → t.image ≡ [] → IsWell t → FilesStand c t → c.max_file ≡ max_file → c.last.0 ≡ 0 → c.active ≡ None
+    → ((key : List ℕ) → look x key ≡ None) → x.last ≡ 0 → Holds t c x []
+fresh_holds t c x empty well stands limit number none places last = record {
+  is_on = record {
+    kept = record {
+      stands = stands;
+      limit = limit;
+      number = number;
+      free = λ id high. ap (λ (i : Image). is_some (at i (main id))) empty;
+    };
+    active = none;
+    image = empty;
+    fronts = no_names t.fronts (well.paired ∙ ap (λ (i : Image). names i) empty);
+  };
+  last = last;
+  each = λ key. subst (λ (o : Option Seat). PlaceStands t.image o None) (sym (places key)) tt;
+}
+
+-- a count that may have been bumped rose by a number, or stands at its last value
+pub bumped_counts : (b : Bool) (n m : ℕ) → m ≡ bumped b n → Counts n m
+bumped_counts false n m is = (0, inl (omega (arith, is)))
+bumped_counts true n m is = elim (cases_lt n most) [ inl low ↦ (1, inl (omega (arith, is, low))) | inr high ↦ (1, inr (omega (arith, is, high))) ]
+
+-- what is left of a record's text is what is left of its write
+pub left_text : (image : Image) (s : Shelf) (text : List ℕ) (w : Write) → text ≡ record_of w → IsLeft image s text → IsLeft image s (records_of (w ∷ []))
+left_text image s text w is left = subst (λ (l : List ℕ). IsLeft image s l) (is ∙ sym (append-nil (record_of w))) left
+
+-- the text that an empty buffer holds after one record was written to it
+pub text_of : (text out front : List ℕ) (w : Write) → text ≡ out → out ≡ front ++ record_of w → front ≡ [] → text ≡ record_of w
+text_of text out front w same wrote none = same ∙ wrote ∙ ap (λ (l : List ℕ). l ++ record_of w) none

@@ -190,7 +190,7 @@ is_whole served each = record { each = each; last = tt; one = omega arith }
 
 -- the files after a run that stood
 pub left_standing : (site : Site) (steps : List Step) → StandsAfter site steps → LeftAfter site steps
-left_standing site steps stood = let (log, leads, holds) = stood in (log, [], leads, omega arith, image_of site.told site.index log [] holds)
+left_standing site steps stood = let (log, leads, holds) = stood in (log, [], leads, omega arith, image_of site.told site.catalog site.index log [] holds)
 
 ends_standing : (status : Status) (site : Site) (steps : List Step) → StandsAfter site steps → EndsAt status site steps
 ends_standing Done site steps stood = stood
@@ -482,7 +482,7 @@ reads_more no_memory last dt st kt ct site old new written faults gathered later
 
 -- how far a run has come before its first request
 pub nothing_yet : (tells : Telling) (start : Scene) (stream : Stream)
-    → (IsTrue tells.disk → Holds start.site.told start.site.index []) → stream.rest ≡ [] → taken stream ≡ 0
+    → (IsTrue tells.disk → Holds start.site.told start.site.catalog start.site.index []) → stream.rest ≡ [] → taken stream ≡ 0
     → SoFar tells start start stream [] []
 nothing_yet tells start stream holds empty none = record {
   each = tt;

@@ -6,5 +6,6 @@ pub mod Output
 pub mod Refusal
 pub mod Run
 pub mod Serving
+pub mod Shelf
 pub mod Store
 pub mod Talking

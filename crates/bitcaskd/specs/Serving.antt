@@ -8,6 +8,7 @@ use Rattle.bk_base.specs.declared.requests.Reply.{Reply}
 use Rattle.bk_base.specs.declared.writes.Write.{Write}
 use Rattle.bk_disk.specs.Streams.{first_moment, later_moments}
 use Rattle.bk_disk.specs.Told.{Told}
+use Rattle.bk_files.specs.declared.catalog.Catalog.{Catalog}
 use Rattle.bk_laws.specs.History.{State, IsReply, after}
 use Rattle.bk_laws.specs.Session.{Serves, call_of, named}
 use Rattle.bk_laws.specs.Wire.{reply_text}
@@ -18,6 +19,7 @@ use Rattle.bitcaskd.specs.Store.{Holds, IsImageOf}
 -- what the store shows, and the moments that the clock has still to give
 pub record Site : Type 0 where
   pub told : Told
+  pub catalog : Catalog
   pub index : Index
   pub faults : ℕ
   pub views : ℕ
@@ -40,12 +42,12 @@ pub record Leads (log : List Write) (step : Step) (later : List Write) : Type 0 
 -- after the step the store stands for the longer log
 abbrev pub GoesOn : Site → Site → Step → Type 0
 GoesOn old new step =
-    (log : List Write) → Holds old.told old.index log → (later : List Write) × Leads log step later × Holds new.told new.index later
+    (log : List Write) → Holds old.told old.catalog old.index log → (later : List Write) × Leads log step later × Holds new.told new.catalog new.index later
 
 -- after the step the files hold the longer log, and a first part of what was tried
 abbrev pub Leaves : Site → Site → Step → Type 0
 Leaves old new step =
-    (log : List Write) → Holds old.told old.index log
+    (log : List Write) → Holds old.told old.catalog old.index log
     → (later tried : List Write) × Leads log step later × (length tried ≤ 1) × IsImageOf new.told.image later tried
 
 -- how the counts of faults and of weak views went on in the step

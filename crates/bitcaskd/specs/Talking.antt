@@ -9,6 +9,7 @@ use Rattle.bk_base.specs.declared.statuses.Status.TheVariants.{Done, Memory, Dis
 use Rattle.bk_base.specs.declared.writes.Write.{Write}
 use Rattle.bk_disk.specs.Causes.{Rose}
 use Rattle.bk_disk.specs.Told.{Told}
+use Rattle.bk_files.specs.declared.catalog.Catalog.{Catalog}
 use Rattle.bk_laws.specs.History.{IsLegal, state_of, entries}
 use Rattle.bk_laws.specs.Session.{Turn, IsTurn, Talk, IsTalk, all_turns, requests_of, replies_of, steps_of, moments_of}
 use Rattle.bk_laws.specs.Wire.{StandsIn}
@@ -17,6 +18,7 @@ use Rattle.bitcaskd.specs.Counts.{Counted}
 use Rattle.bitcaskd.specs.Output.{Wrote, LeftOver}
 use Rattle.bitcaskd.specs.Run.{Telling, telling, Outside, Reads, Writes, TakesMost, most_taken, faults_in, views_in}
 use Rattle.bitcaskd.specs.Serving.{Site, Ticks, plain}
+use Rattle.bitcaskd.specs.Shelf.{FitsWithin}
 use Rattle.bitcaskd.specs.Store.{Holds, IsImageOf}
 use Rattle.bitcaskd.specs.declared.index.Index.{Index}
 use Rattle.bitcaskd.specs.declared.input.Input.{Input}
@@ -52,7 +54,7 @@ pub record LeadTo (steps : List Step) (log : List Write) : Type 0 where
 
 -- the store stands for the log of the steps
 abbrev pub StandsAfter : Site → List Step → Type 0
-StandsAfter site steps = (log : List Write) × LeadTo steps log × Holds site.told site.index log
+StandsAfter site steps = (log : List Write) × LeadTo steps log × Holds site.told site.catalog site.index log
 
 -- the files hold the log of the steps, and a first part of what was tried
 abbrev pub LeftAfter : Site → List Step → Type 0
@@ -122,8 +124,15 @@ Gives Failed tells old new = (new.stream ≡ old.stream) × Rose old.faults new.
 Gives no_memory tells old new = new.stream ≡ old.stream
 
 -- a site and a scene from what the objects show
-abbrev pub site_of : Told → Index → ℕ → ℕ → List Moment → Site
-site_of told index faults views moments = record { told = told; index = index; faults = faults; views = views; moments = moments }
+abbrev pub site_of : Told → Catalog → Index → ℕ → ℕ → List Moment → Site
+site_of told catalog index faults views moments = record {
+  told = told;
+  catalog = catalog;
+  index = index;
+  faults = faults;
+  views = views;
+  moments = moments;
+}
 
 abbrev pub scene_of : Site → List ℕ → ℕ → List ℕ → ℕ → Scene
 scene_of site whole taken written sink_faults = record { site = site; whole = whole; taken = taken; written = written; sink_faults = sink_faults }
@@ -190,8 +199,8 @@ StopsAtBad result tells before faults_before gathered now faults_now =
     ⊎ ((result ≡ Some Sink) × FailsOut tells before gathered now faults_before faults_now × (faults_before ≤ faults_now))
 
 -- the store's numbers are no larger than what was read allows, and there is room for a piece
-pub record IsReady (x : Index) (stream : Stream) (piece : List ℕ) : Type 0 where
-  pub end : x.end ≤ 23 * stream.offset
+pub record IsReady (c : Catalog) (x : Index) (stream : Stream) (piece : List ℕ) : Type 0 where
+  pub files : FitsWithin (46 * stream.offset) c
   pub last : x.last ≤ stream.offset
   pub most : stream.most ≡ most_taken
   pub within : taken stream ≤ most_taken

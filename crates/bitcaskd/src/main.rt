@@ -3,6 +3,7 @@
 //! `run` is the program; `main` gives it the words, the folder, the streams and the clock.
 #![tactic(auto)]
 
+mod appending;
 mod closing;
 mod help;
 mod index;

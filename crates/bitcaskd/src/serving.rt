@@ -1,8 +1,9 @@
 //! One request, from the clock and the store to its reply.
-ghost use Rattle.std.specs.Prelude.{◌≡◌, ◌⊎◌, ◌+◌, ◌*◌, ◌^◌, ◌<◌, ◌≤◌, ◌++◌, length, IsTrue, OnOk, IfOk, OnErr, IsErrOf};
+ghost use Rattle.std.specs.Prelude.{◌≡◌, ◌⊎◌, ◌+◌, ◌*◌, ◌^◌, ◌<◌, ◌≤◌, ◌++◌, ℕ, length, IsTrue, OnOk, IfOk, OnErr, IsErrOf};
 ghost use Rattle.bk_disk.specs.Causes.{Rose};
 ghost use Rattle.bk_laws.specs.Wire.{Fits, request_text, reply_text};
 ghost use Rattle.bitcaskd.specs.Serving.{Answered, Served, Refused};
+ghost use Rattle.bitcaskd.specs.Shelf.{FitsWithin};
 ghost use Rattle.bitcaskd.specs.Store.{Stands};
 
 use crate::refusals::Refusal;
@@ -19,24 +20,24 @@ fn serve<D: Disk, C: Clock>(
     clock: &mut C,
     request: Request,
 ) -> Result<Reply, Refusal>
-    requires stands { IsTrue D.tells → Stands (D.told store.old.disk) store.old.index }
+    requires stands { IsTrue D.tells → Stands (D.told store.old.files.disk) store.old.files.catalog store.old.index }
     requires fits { Fits request }
-    requires file { store.old.index.end + 23 * length (request_text request) < 2 ^ 63 }
+    requires files { FitsWithin (2 ^ 56) store.old.files.catalog }
     requires seq { store.old.index.last + length (request_text request) < 2 ^ 63 }
-    ensures end { OnOk result (store.new.index.end ≤ store.old.index.end + 23 * length
-        (request_text request)) }
+    ensures files { OnOk result ((most : ℕ) → FitsWithin most store.old.files.catalog
+        → FitsWithin (most + 46 * length (request_text request)) store.new.files.catalog) }
     ensures last { OnOk result (store.new.index.last ≤ store.old.index.last + length
         (request_text request)) }
     ensures ok { IfOk result (λ reply. Served D.tells C.tells request reply
-        (record { told = D.told store.old.disk; index = store.old.index; faults = D.faults store.old.disk; views = D.weak_views store.old.disk; moments = C.moments clock.old })
-        (record { told = D.told store.new.disk; index = store.new.index; faults = D.faults store.new.disk; views = D.weak_views store.new.disk; moments = C.moments clock.new })) }
+        (record { told = D.told store.old.files.disk; catalog = store.old.files.catalog; index = store.old.index; faults = D.faults store.old.files.disk; views = D.weak_views store.old.files.disk; moments = C.moments clock.old })
+        (record { told = D.told store.new.files.disk; catalog = store.new.files.catalog; index = store.new.index; faults = D.faults store.new.files.disk; views = D.weak_views store.new.files.disk; moments = C.moments clock.new })) }
     ensures err { OnErr result (Refused D.tells C.tells request
-        (record { told = D.told store.old.disk; index = store.old.index; faults = D.faults store.old.disk; views = D.weak_views store.old.disk; moments = C.moments clock.old })
-        (record { told = D.told store.new.disk; index = store.new.index; faults = D.faults store.new.disk; views = D.weak_views store.new.disk; moments = C.moments clock.new })) }
-    ensures later { D.faults store.old.disk ≤ D.faults store.new.disk }
-    ensures disk { IsErrOf result Refusal.Disk → Rose (D.faults store.old.disk)
-        (D.faults store.new.disk) ⊎ Rose (D.weak_views store.old.disk)
-        (D.weak_views store.new.disk) }
+        (record { told = D.told store.old.files.disk; catalog = store.old.files.catalog; index = store.old.index; faults = D.faults store.old.files.disk; views = D.weak_views store.old.files.disk; moments = C.moments clock.old })
+        (record { told = D.told store.new.files.disk; catalog = store.new.files.catalog; index = store.new.index; faults = D.faults store.new.files.disk; views = D.weak_views store.new.files.disk; moments = C.moments clock.new })) }
+    ensures later { D.faults store.old.files.disk ≤ D.faults store.new.files.disk }
+    ensures disk { IsErrOf result Refusal.Disk → Rose (D.faults store.old.files.disk)
+        (D.faults store.new.files.disk) ⊎ Rose (D.weak_views store.old.files.disk)
+        (D.weak_views store.new.files.disk) }
 {
     let now = clock.now();
     match request {
@@ -60,26 +61,26 @@ pub fn answer<D: Disk, C: Clock>(
     replies: &mut Vec<u8>,
     request: Request,
 ) -> Result<(), Refusal>
-    requires stands { IsTrue D.tells → Stands (D.told store.old.disk) store.old.index }
+    requires stands { IsTrue D.tells → Stands (D.told store.old.files.disk) store.old.files.catalog store.old.index }
     requires fits { Fits request }
-    requires file { store.old.index.end + 23 * length (request_text request) < 2 ^ 63 }
+    requires files { FitsWithin (2 ^ 56) store.old.files.catalog }
     requires seq { store.old.index.last + length (request_text request) < 2 ^ 63 }
-    ensures end { OnOk result (store.new.index.end ≤ store.old.index.end + 23 * length
-        (request_text request)) }
+    ensures files { OnOk result ((most : ℕ) → FitsWithin most store.old.files.catalog
+        → FitsWithin (most + 46 * length (request_text request)) store.new.files.catalog) }
     ensures last { OnOk result (store.new.index.last ≤ store.old.index.last + length
         (request_text request)) }
     ensures ok { OnOk result (Answered D.tells C.tells request
-        (record { told = D.told store.old.disk; index = store.old.index; faults = D.faults store.old.disk; views = D.weak_views store.old.disk; moments = C.moments clock.old })
-        (record { told = D.told store.new.disk; index = store.new.index; faults = D.faults store.new.disk; views = D.weak_views store.new.disk; moments = C.moments clock.new })
+        (record { told = D.told store.old.files.disk; catalog = store.old.files.catalog; index = store.old.index; faults = D.faults store.old.files.disk; views = D.weak_views store.old.files.disk; moments = C.moments clock.old })
+        (record { told = D.told store.new.files.disk; catalog = store.new.files.catalog; index = store.new.index; faults = D.faults store.new.files.disk; views = D.weak_views store.new.files.disk; moments = C.moments clock.new })
         replies.old.items replies.new.items) }
     ensures err { OnErr result (Refused D.tells C.tells request
-        (record { told = D.told store.old.disk; index = store.old.index; faults = D.faults store.old.disk; views = D.weak_views store.old.disk; moments = C.moments clock.old })
-        (record { told = D.told store.new.disk; index = store.new.index; faults = D.faults store.new.disk; views = D.weak_views store.new.disk; moments = C.moments clock.new })) }
+        (record { told = D.told store.old.files.disk; catalog = store.old.files.catalog; index = store.old.index; faults = D.faults store.old.files.disk; views = D.weak_views store.old.files.disk; moments = C.moments clock.old })
+        (record { told = D.told store.new.files.disk; catalog = store.new.files.catalog; index = store.new.index; faults = D.faults store.new.files.disk; views = D.weak_views store.new.files.disk; moments = C.moments clock.new })) }
     ensures kept { OnErr result (replies.new.items ≡ replies.old.items) }
-    ensures later { D.faults store.old.disk ≤ D.faults store.new.disk }
-    ensures disk { IsErrOf result Refusal.Disk → Rose (D.faults store.old.disk)
-        (D.faults store.new.disk) ⊎ Rose (D.weak_views store.old.disk)
-        (D.weak_views store.new.disk) }
+    ensures later { D.faults store.old.files.disk ≤ D.faults store.new.files.disk }
+    ensures disk { IsErrOf result Refusal.Disk → Rose (D.faults store.old.files.disk)
+        (D.faults store.new.files.disk) ⊎ Rose (D.weak_views store.old.files.disk)
+        (D.weak_views store.new.files.disk) }
 {
     let reply = match serve(alloc, store, clock, request) {
         Ok(reply) => reply,

@@ -1,95 +1,50 @@
-//! The store of the first path: one data file, and a table from each key to the place of its
-//! newest value in it.
-ghost use Rattle.std.specs.Prelude.{◌≡◌, ◌+◌, ◌^◌, ◌<◌, ◌≤◌, ◌⊎◌, ◌∷◌, ◌++◌, ℕ, [], None, length, take, true, false, IsTrue, OnOk, IfOk, OnErr, IfErr, IsErrOf};
-ghost use Rattle.bk_base.specs.declared.writes.Body.TheVariants.{Put as put_body};
-ghost use Rattle.bk_base.specs.declared.writes.Write.{Write};
-ghost use Rattle.bk_disk.specs.Calls.{Appended};
+//! The store: its data files, and a table from each key to the place of its newest value in them.
+ghost use Rattle.std.specs.Prelude.{◌≡◌, ◌+◌, ◌*◌, ◌^◌, ◌<◌, ◌≤◌, ◌⊎◌, ◌∷◌, ◌++◌, ℕ, [], None, length, take, true, false, IsTrue, OnOk, IfOk, OnErr, IfErr, IsErrOf};
 ghost use Rattle.bk_disk.specs.Causes.{IsCaused, Rose};
 ghost use Rattle.bk_disk.specs.Stops.{IsSynced};
-ghost use Rattle.bk_disk.specs.Told.{IsOurs};
-ghost use Rattle.bk_laws.specs.Record.{record_of};
 ghost use Rattle.bitcaskd.specs.Counts.{Counts};
 ghost use Rattle.bitcaskd.specs.Index.{look};
-ghost use Rattle.bitcaskd.specs.Store.{Stands, KeepsLog, LeavesLog, AppendsPart, PutDone, PutRefused, GetDone, put_of, next_of};
+ghost use Rattle.bitcaskd.specs.Shelf.{FitsWithin};
+ghost use Rattle.bitcaskd.specs.Store.{Holds, Stands, KeepsLog, PutDone, PutRefused, GetDone, put_of, next_of};
 
+use crate::appending::append_text;
 use crate::index::Index;
 use crate::places::Place;
 use crate::refusals::Refusal;
-use bk_base::{Body, Key, Kind, Memory, Moment, Name, Seq, Value, Write};
+use bk_base::{Body, FileId, Key, Memory, Moment, Seq, Value, Write};
 use bk_disk::{Disk, DiskError, Failed, View};
+use bk_files::Files;
 use bk_record::encode;
 use std::alloc::Global;
 
-/// The one data file.
-pub const DATA: Name = Name {
-    id: 1,
-    kind: Kind::Main,
-};
+/// Past this many bytes a data file takes no further record.
+const MAX_FILE: u32 = 67_108_864;
 
-/// A store over a disk.
+/// A store over the data files of a disk.
 pub struct Store<D: Disk> {
-    pub disk: D,
+    pub files: Files<D>,
     pub index: Index,
 }
 
 impl<D: Disk> Store<D> {
     /// The store over a disk without files.
     pub fn new(alloc: Global, disk: D) -> Store<D>
-        ensures disk { result.disk ≡ disk }
-        ensures places { (key : _) → look result.index key ≡ None }
-        ensures end { result.index.end ≡ 0 }
+        requires { IsTrue D.tells → (D.told disk).image ≡ [] }
+        ensures disk { result.files.disk ≡ disk }
+        ensures fits { FitsWithin 0 result.files.catalog }
         ensures last { result.index.last ≡ 0 }
-        ensures made { result.index.made ≡ false }
+        ensures holds { IsTrue D.tells → Holds (D.told result.files.disk) result.files.catalog
+            result.index [] }
     {
         Store {
-            disk,
+            files: Files::new(disk, Vec::new(alloc), FileId(0), MAX_FILE),
             index: Index::new(alloc),
         }
     }
 
-    /// Makes the data file, unless it is there.
-    fn open_file(&mut self) -> Result<(), Refusal>
-        requires { IsTrue D.tells → Stands (D.told self.old.disk) self.old.index }
-        ensures index { OnOk result (self.new.index ≡ record self.old.index { made = true }) }
-        ensures same { OnErr result (self.new.index ≡ self.old.index) }
-        ensures holds { IsTrue D.tells → OnOk result
-            (KeepsLog (D.told self.old.disk) self.old.index (D.told self.new.disk) self.new.index) }
-        ensures err { IsTrue D.tells → OnErr result
-            (LeavesLog (D.told self.old.disk) self.old.index (D.told self.new.disk)) }
-        ensures later { D.faults self.old.disk ≤ D.faults self.new.disk }
-        ensures disk { IsErrOf result Refusal.Disk → Rose (D.faults self.old.disk)
-            (D.faults self.new.disk) }
-        ensures views { D.weak_views self.new.disk ≡ D.weak_views self.old.disk }
-    {
-        if !self.index.made {
-            self.disk.create(DATA)?;
-            self.index.made = true;
-        }
-        Ok(())
-    }
-
-    /// Appends a record's text to the data file, which is there.
-    fn append(&mut self, text: &[u8]) -> Result<(), Refusal>
-        requires { IsTrue D.tells → IsOurs DATA (D.told self.old.disk) }
-        ensures index { self.new.index ≡ self.old.index }
-        ensures ok { IsTrue D.tells → OnOk result
-            (Appended DATA (length text.now) text.now (D.told self.old.disk)
-            (D.told self.new.disk)) }
-        ensures err { IsTrue D.tells → OnErr result
-            (AppendsPart text.now (D.told self.old.disk).image (D.told self.new.disk).image) }
-        ensures later { D.faults self.old.disk ≤ D.faults self.new.disk }
-        ensures disk { IsErrOf result Refusal.Disk → Rose (D.faults self.old.disk)
-            (D.faults self.new.disk) }
-        ensures views { D.weak_views self.new.disk ≡ D.weak_views self.old.disk }
-    {
-        self.disk.ready(DATA, text.len() as u64)?;
-        self.disk.append(DATA, text)?;
-        Ok(())
-    }
-
-    /// Puts a value: the record goes to the end of the data file, and then its place into the
-    /// table. Only memory or the disk can refuse it, and then a first part of the record may stand
-    /// in the file.
+    /// Puts a value: the record goes to the end of the newest data file, and then its place into
+    /// the table. Only memory or the disk can refuse it, and then a first part of the record may
+    /// stand in the newest file.
     pub fn put(
         &mut self,
         alloc: Global,
@@ -97,23 +52,25 @@ impl<D: Disk> Store<D> {
         value: Value,
         now: Moment,
     ) -> Result<Seq, Refusal>
-        requires stands { IsTrue D.tells → Stands (D.told self.old.disk) self.old.index }
-        requires file { self.old.index.end + (22 + length key + length value) < 2 ^ 63 }
+        requires stands { IsTrue D.tells → Stands (D.told self.old.files.disk)
+            self.old.files.catalog self.old.index }
+        requires fits { FitsWithin (2 ^ 56) self.old.files.catalog }
         requires seq { self.old.index.last + 1 < 2 ^ 63 }
         ensures seq { IfOk result (λ seq. seq.0 ≡ self.old.index.last + 1) }
         ensures last { OnOk result (self.new.index.last ≡ self.old.index.last + 1) }
-        ensures end { OnOk result (self.new.index.end ≡ self.old.index.end +
-            (22 + length key + length value)) }
+        ensures fits { OnOk result ((most : ℕ) → FitsWithin most self.old.files.catalog
+            → FitsWithin (most + 2 * (22 + length key + length value)) self.new.files.catalog) }
         ensures ok { IsTrue D.tells → IfOk result
-            (λ seq. PutDone (D.told self.old.disk) self.old.index
-            (D.told self.new.disk) self.new.index (put_of seq now key value)) }
+            (λ seq. PutDone (D.told self.old.files.disk) self.old.files.catalog self.old.index
+            (D.told self.new.files.disk) self.new.files.catalog self.new.index
+            (put_of seq now key value)) }
         ensures err { IsTrue D.tells → OnErr result
-            (PutRefused (D.told self.old.disk) self.old.index (D.told self.new.disk)
-            (put_of (next_of self.old.index) now key value)) }
-        ensures later { D.faults self.old.disk ≤ D.faults self.new.disk }
-        ensures disk { IsErrOf result Refusal.Disk → Rose (D.faults self.old.disk)
-            (D.faults self.new.disk) }
-        ensures views { D.weak_views self.new.disk ≡ D.weak_views self.old.disk }
+            (PutRefused (D.told self.old.files.disk) self.old.files.catalog self.old.index
+            (D.told self.new.files.disk) (put_of (next_of self.old.index) now key value)) }
+        ensures later { D.faults self.old.files.disk ≤ D.faults self.new.files.disk }
+        ensures disk { IsErrOf result Refusal.Disk → Rose (D.faults self.old.files.disk)
+            (D.faults self.new.files.disk) }
+        ensures views { D.weak_views self.new.files.disk ≡ D.weak_views self.old.files.disk }
     {
         let seq = Seq(self.index.last + 1);
         let len = value_len(&value);
@@ -126,60 +83,68 @@ impl<D: Disk> Store<D> {
         let mut text = Vec::new(alloc);
         encode(&write, &mut text)?;
         self.index.reserve()?;
-        self.open_file()?;
-        self.append(text.as_slice())?;
-        self.index.add(write.key, len, text.len() as u64);
+        let at = append_text(&mut self.files, text.as_slice())?;
+        let end = at + text.len() as u64;
+        let place = Place {
+            at: end - u64::from(len),
+            file: self.files.catalog.last,
+            len,
+        };
+        self.index.add(write.key, place);
         Ok(seq)
     }
 
     /// The newest value of a key, or None where it has none: one look-up and one view of the value.
     pub fn get(&mut self, alloc: Global, key: &Key) -> Result<Option<Value>, Refusal>
-        requires { IsTrue D.tells → Stands (D.told self.old.disk) self.old.index }
+        requires { IsTrue D.tells → Stands (D.told self.old.files.disk) self.old.files.catalog
+            self.old.index }
         ensures index { self.new.index ≡ self.old.index }
+        ensures catalog { self.new.files.catalog ≡ self.old.files.catalog }
         ensures found { IsTrue D.tells → IfOk result
-            (λ found. GetDone (D.told self.old.disk) self.old.index key.now found) }
-        ensures image { IsTrue D.tells → (D.told self.new.disk).image ≡
-            (D.told self.old.disk).image }
-        ensures fronts { IsTrue D.tells → (D.told self.new.disk).fronts ≡
-            (D.told self.old.disk).fronts }
-        ensures faults { D.faults self.old.disk ≤ D.faults self.new.disk }
-        ensures views { Counts (D.weak_views self.old.disk) (D.weak_views self.new.disk) }
-        ensures disk { IsErrOf result Refusal.Disk → Rose (D.faults self.old.disk)
-            (D.faults self.new.disk) ⊎ Rose (D.weak_views self.old.disk)
-            (D.weak_views self.new.disk) }
+            (λ found. GetDone (D.told self.old.files.disk) self.old.files.catalog self.old.index
+            key.now found) }
+        ensures image { IsTrue D.tells → (D.told self.new.files.disk).image ≡
+            (D.told self.old.files.disk).image }
+        ensures keeps { IsTrue D.tells → KeepsLog (D.told self.old.files.disk)
+            self.old.files.catalog self.old.index (D.told self.new.files.disk)
+            self.new.files.catalog self.new.index }
+        ensures faults { D.faults self.old.files.disk ≤ D.faults self.new.files.disk }
+        ensures views { Counts (D.weak_views self.old.files.disk)
+            (D.weak_views self.new.files.disk) }
+        ensures disk { IsErrOf result Refusal.Disk → Rose (D.faults self.old.files.disk)
+            (D.faults self.new.files.disk) ⊎ Rose (D.weak_views self.old.files.disk)
+            (D.weak_views self.new.files.disk) }
     {
         let Some(place) = self.index.place(key) else {
             return Ok(None);
         };
-        let view = self.disk.view(DATA, place.at, u64::from(place.len))?;
+        let view = self.files.view(place.file, place.at, u64::from(place.len))?;
         Ok(Some(read_value(alloc, view, place)?))
     }
 
-    /// Syncs the data file, where there is one, and says how far the log goes.
+    /// Syncs the newest data file, where there is one, and says how far the log goes.
     pub fn sync(&mut self) -> Result<Seq, Failed>
-        requires { IsTrue D.tells → Stands (D.told self.old.disk) self.old.index }
+        requires { IsTrue D.tells → Stands (D.told self.old.files.disk) self.old.files.catalog
+            self.old.index }
         ensures seq { IfOk result (λ seq. seq.0 ≡ self.old.index.last) }
         ensures index { self.new.index ≡ self.old.index }
-        ensures image { IsTrue D.tells → (D.told self.new.disk).image ≡
-            (D.told self.old.disk).image }
-        ensures synced { IsTrue D.tells → OnOk result (IsSynced (D.told self.new.disk)) }
-        ensures cause { IsCaused (D.faults self.old.disk) (D.faults self.new.disk) result }
-        ensures views { D.weak_views self.new.disk ≡ D.weak_views self.old.disk }
+        ensures image { IsTrue D.tells → (D.told self.new.files.disk).image ≡
+            (D.told self.old.files.disk).image }
+        ensures synced { IsTrue D.tells → OnOk result (IsSynced (D.told self.new.files.disk)) }
+        ensures cause { IsCaused (D.faults self.old.files.disk) (D.faults self.new.files.disk)
+            result }
+        ensures views { D.weak_views self.new.files.disk ≡ D.weak_views self.old.files.disk }
     {
-        let last = Seq(self.index.last);
-        if self.index.made {
-            self.disk.sync(DATA)?;
-            return Ok(last);
-        }
-        Ok(last)
+        self.files.sync()?;
+        Ok(Seq(self.index.last))
     }
 
     /// The store's disk.
     pub fn into_disk(self) -> D
-        ensures { result ≡ self.disk }
+        ensures { result ≡ self.files.disk }
     {
-        let Store { disk, index: _ } = self;
-        disk
+        let Store { files, index: _ } = self;
+        files.into_disk()
     }
 }
 

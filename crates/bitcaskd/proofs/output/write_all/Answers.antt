@@ -2,7 +2,7 @@ use Rattle.std.proofs.Common.{◌∙◌, ◌-◌, ◌++◌, ap, sym, arith, appe
 use Rattle.std.proofs.lemmas.List.{take-append-drop, take-take, length-take, length-drop}
 use Rattle.std.proofs.Math.Seq.{take-add}
 use Rattle.bitcaskd.specs.Output.{LeftOver}
-use Rattle.bitcaskd.proofs.StoreLaws.{on_err}
+use Rattle.bitcaskd.proofs.Results.{on_err}
 use Rattle.bitcaskd.proofs.output.write_all.Goals as goal
 
 pub returns-in_err-at-clause-part : goal.returns-in_err-at-clause-part

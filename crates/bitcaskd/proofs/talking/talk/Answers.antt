@@ -1,6 +1,7 @@
 use Rattle.std.proofs.Common.{ap, sym, refl, arith, inl, []}
 use Rattle.std.proofs.lemmas.List.{append-nil}
 use Rattle.bk_wire.specs.Stream.{Stream, taken}
+use Rattle.bitcaskd.proofs.ShelfLaws.{fits_more}
 use Rattle.bitcaskd.proofs.TalkingLaws.{nothing_yet, memory_ends}
 use Rattle.bitcaskd.proofs.talking.talk.Goals as goal
 
@@ -14,7 +15,7 @@ pub turns-init : goal.turns-init
 turns-init g c = record {
   stands = λ tells. ([], c.requires.holds tells);
   ready = record {
-    end = omega (arith, c.requires.end);
+    files = fits_more 0 _ _ (omega arith) c.requires.files;
     last = omega (arith, c.requires.last);
     most = ap (λ (s : Stream). s.most) c.in-Ok.ensures.reader;
     within = omega (arith, ap (λ (s : Stream). taken s) c.in-Ok.ensures.reader);

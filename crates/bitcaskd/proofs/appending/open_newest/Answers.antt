@@ -1,0 +1,18 @@
+use Rattle.std.proofs.Common.{[], ◌∙◌, inl}
+use Rattle.bitcaskd.specs.Shelf.{LeavesPart}
+use Rattle.bitcaskd.proofs.Results.{on_err}
+use Rattle.bitcaskd.proofs.ShelfLaws.{extends_on, extends_told, half_repaired_on, image_on, repaired_on, repaired_still}
+use Rattle.bitcaskd.proofs.appending.open_newest.Goals as goal
+
+pub returns-in_err-repair-clause-err : goal.returns-in_err-repair-clause-err
+returns-in_err-repair-clause-err g c = λ tells.
+    let left : LeavesPart (g.D.Disk.told c.args.files.now.disk) c.args.files.now.catalog (g.D.Disk.told c.repair.new.self.disk).image [] =
+    λ s h. inl (half_repaired_on s _ _ _ h (c.in_err-repair.ensures.half tells) ∙ image_on s _ _ h)
+    in on_err _ left
+
+pub returns-clause-grows : goal.returns-clause-grows
+returns-clause-grows g c = λ tells s h.
+    let repaired = c.in_ok-repair.ensures.repaired tells in
+    let stood = repaired_still s _ _ _ _ h repaired c.in_ok-repair.ensures.ok (c.in_ok-repair.ensures.stands tells) in
+    extends_on _ _ _ (extends_told _ _ (repaired_on s _ _ _ h repaired))
+    (extends_on _ _ _ (c.in_ok-roll_if_due.ensures.grows tells s stood) (extends_told _ _ (c.in_ok-ready.ensures.told tells)))
