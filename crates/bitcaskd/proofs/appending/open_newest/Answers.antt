@@ -1,7 +1,8 @@
-use Rattle.std.proofs.Common.{[], ◌∙◌, inl}
+use Rattle.std.proofs.Common.{[], ◌∙◌, ap, inl}
+use Rattle.bk_disk.specs.Told.{Told}
 use Rattle.bitcaskd.specs.Shelf.{LeavesPart}
 use Rattle.bitcaskd.proofs.Results.{on_err}
-use Rattle.bitcaskd.proofs.ShelfLaws.{extends_on, extends_told, half_repaired_on, image_on, repaired_on, repaired_still}
+use Rattle.bitcaskd.proofs.ShelfLaws.{extends_on, extends_told, half_repaired_on, image_on, left_image, open_left, repaired_on, repaired_still}
 use Rattle.bitcaskd.proofs.appending.open_newest.Goals as goal
 
 pub returns-in_err-repair-clause-err : goal.returns-in_err-repair-clause-err
@@ -16,3 +17,11 @@ returns-clause-grows g c = λ tells s h.
     let stood = repaired_still s _ _ _ _ h repaired c.in_ok-repair.ensures.ok (c.in_ok-repair.ensures.stands tells) in
     extends_on _ _ _ (extends_told _ _ (repaired_on s _ _ _ h repaired))
     (extends_on _ _ _ (c.in_ok-roll_if_due.ensures.grows tells s stood) (extends_told _ _ (c.in_ok-ready.ensures.told tells)))
+
+pub returns-in_err-ready-clause-err : goal.returns-in_err-ready-clause-err
+returns-in_err-ready-clause-err g c = λ tells.
+    let left : LeavesPart (g.D.Disk.told c.args.files.now.disk) c.args.files.now.catalog (g.D.Disk.told c.ready.new.self.disk).image [] =
+    λ s h.
+    let stood = repaired_still s _ _ _ _ h (c.in_ok-repair.ensures.repaired tells) c.in_ok-repair.ensures.ok (c.in_ok-repair.ensures.stands tells) in
+    left_image s _ _ [] (ap (λ (t : Told). t.image) (c.in_err-ready.ensures.told tells)) (open_left c.args.size s _ _ (c.in_ok-roll_if_due.ensures.ok tells s stood))
+    in on_err _ left

@@ -1,4 +1,4 @@
-use Rattle.std.proofs.Common.{◌≡◌, ◌∙◌, ◌+◌, ◌*◌, ◌++◌, ℕ, length, ap, sym, refl, arith, List, subst}
+use Rattle.std.proofs.Common.{◌≡◌, ◌∙◌, ◌+◌, ◌*◌, ℕ, length, ap, sym, refl, arith, subst}
 use Rattle.bk_base.specs.declared.writes.Write.{Write}
 use Rattle.bk_laws.specs.Record.{record_of}
 use Rattle.bitcaskd.specs.Shelf.{FitsWithin, filed}
