@@ -18,6 +18,7 @@ import zlib
 
 CRATE = pathlib.Path(__file__).resolve().parent.parent / "crates" / "bitcaskd"
 DATA_FILE = "1.bitcask.data"
+MOST_IN_FILE = 67_108_864  # past this many bytes a data file takes no further record
 LOCK_FILE = "bitcask.write.lock"
 LARGEST_KEY = 65_535
 LARGEST_VALUE = 16_777_216
@@ -163,12 +164,12 @@ class StoreTest(unittest.TestCase):
         self.assertEqual(len(ended.stdout or b""), len(output))
         self.assertTrue((ended.stdout or b"") == output, "the output has other bytes")
 
-    def assert_holds(self, writes, since=0):
-        """The data file is exactly the records of these puts, each with a moment from `since` to now."""
-        text = (self.folder / DATA_FILE).read_bytes()
-        now, packed = int(time.time()), b""
-        for seq, (key, value) in enumerate(writes, 1):
-            (moment,) = struct.unpack_from(">I", text.ljust(len(packed) + 8, b"\0"), len(packed) + 4)
+    def assert_holds(self, writes, since=0, name=DATA_FILE, first=1):
+        """The data file is exactly the records of these puts, numbered from `first`, each with a moment from `since` to now."""
+        text = (self.folder / name).read_bytes()
+        now, packed = int(time.time()), bytearray()
+        for seq, (key, value) in enumerate(writes, first):
+            (moment,) = struct.unpack_from(">I", text[len(packed):len(packed) + 8].ljust(8, b"\0"), 4)
             self.assertTrue(since <= moment <= now, f"moment {moment} of record {seq}")
             packed += record(moment, seq, key, value)
         self.assertEqual(len(text), len(packed))
