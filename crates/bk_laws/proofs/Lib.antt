@@ -1,1 +1,2 @@
 mod WireRows
+pub mod LastWrites

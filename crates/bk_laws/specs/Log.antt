@@ -1,5 +1,5 @@
 -- The log of a store, and what it says of each key.
-use Rattle.std.specs.Prelude.{◌≡◌, ℕ, ◌+◌, ◌<◌, List, [], ◌∷◌, Bool, ◌||◌, ◌==◌, nat_lt, nat_le, cond, Option, None, Some, filter}
+use Rattle.std.specs.Prelude.{◌≡◌, ℕ, ◌+◌, ◌<◌, List, [], ◌∷◌, ◌++◌, length, Bool, false, is_some, ◌||◌, ◌==◌, nat_lt, nat_le, cond, Option, None, Some, filter}
 use Rattle.std.specs.Str.{bytes_eq}
 use Rattle.bk_base.specs.declared.writes.Write.{Write}
 use Rattle.bk_base.specs.declared.writes.Body.{Body}
@@ -38,6 +38,21 @@ or_else None other = other
 abbrev pub winner : List Write → List ℕ → Option Write
 winner [] key = None
 winner (w ∷ ws) key = or_else (winner ws key) (cond (bytes_eq w.key key) (Some w) None)
+
+-- The last write of the key stands at this place of the log.
+pub record IsWinner (log : List Write) (key : List ℕ) (place : ℕ) : Type 0 where
+  pub before : List Write
+  pub write : Write
+  pub later : List Write
+  pub whole : log ≡ before ++ write ∷ later
+  pub at : length before ≡ place
+  pub is_last : winner log key ≡ Some write
+  pub none_later : winner later key ≡ None
+
+-- a later write has the key of the first
+abbrev pub is_superseded : List Write → Bool
+is_superseded [] = false
+is_superseded (w ∷ ws) = is_some (winner ws w.key)
 
 -- a write that puts, or none
 abbrev pub put_in : Write → Body → Option Write

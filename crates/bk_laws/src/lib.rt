@@ -3,5 +3,10 @@
 #![tactic(auto)]
 
 mod expiry;
+mod winners;
 
 pub use expiry::live;
+pub use winners::{superseded, value_at, winner};
+
+#[cfg(test)]
+mod tests;
