@@ -20,6 +20,7 @@ use Rattle.bk_files.specs.Catalog.{main}
 use Rattle.bk_files.specs.Files.{HalfRepaired, Repaired, Settled, Synchronized}
 use Rattle.bk_files.specs.Files.{Stands as FilesStand}
 use Rattle.bk_laws.specs.Log.{winner, or_else, seq_after}
+use Rattle.bk_laws.proofs.LastWrites.{winner-append}
 use Rattle.bk_laws.specs.Record.{record_of, records_of, covered_of, fields_of, checksum_of, size_of}
 use Rattle.bitcaskd.specs.declared.index.Index.{Index}
 use Rattle.bitcaskd.specs.Counts.{Counts}
@@ -27,20 +28,6 @@ use Rattle.bitcaskd.specs.Index.{Seat, look, AddsPlace, SamePlaces}
 use Rattle.bitcaskd.specs.Shelf.{Shelf, Extends, IsLeft, IsOn, filed, filed_from, max_file, place_for, put_on}
 use Rattle.bitcaskd.specs.Store.{HasValueAt, PlaceStands, Holds, IsImageOf, put_of}
 use Rattle.bitcaskd.proofs.ShelfLaws.{half_repaired_on, image_on, repaired_on, settled_on, still_on}
-
-or_else-none : (a : Option Write) → or_else a None ≡ a
-or_else-none None = refl
-or_else-none (Some w) = refl
-
-or_else-assoc : (a b c : Option Write) → or_else (or_else a b) c ≡ or_else a (or_else b c)
-or_else-assoc None b c = refl
-or_else-assoc (Some w) b c = refl
-
-winner-append : (xs ys : List Write) (key : List ℕ) → winner (xs ++ ys) key ≡ or_else (winner ys key) (winner xs key)
-winner-append [] ys key = sym (or_else-none (winner ys key))
-winner-append (x ∷ xs) ys key =
-    ap (λ o. or_else o (cond (bytes_eq x.key key) (Some x) None)) (winner-append xs ys key)
-    ∙ or_else-assoc (winner ys key) (winner xs key) (cond (bytes_eq x.key key) (Some x) None)
 
 pub seq_after-snoc : (n : ℕ) (log : List Write) (w : Write) → seq_after n (log ++ w ∷ []) ≡ w.seq.0
 seq_after-snoc n [] w = refl

@@ -25,6 +25,17 @@ pub record Site : Type 0 where
   pub views : ℕ
   pub moments : List Moment
 
+-- a site from what the objects show
+abbrev pub site_of : Told → Catalog → Index → ℕ → ℕ → List Moment → Site
+site_of told catalog index faults views moments = record {
+  told = told;
+  catalog = catalog;
+  index = index;
+  faults = faults;
+  views = views;
+  moments = moments;
+}
+
 -- a log without open folds
 abbrev pub plain : List Write → State
 plain log = record { log = log; folds = [] }

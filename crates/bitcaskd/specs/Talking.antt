@@ -123,17 +123,7 @@ Gives took_most tells old new = (new.stream ≡ old.stream) × (taken old.stream
 Gives Failed tells old new = (new.stream ≡ old.stream) × Rose old.faults new.faults
 Gives no_memory tells old new = new.stream ≡ old.stream
 
--- a site and a scene from what the objects show
-abbrev pub site_of : Told → Catalog → Index → ℕ → ℕ → List Moment → Site
-site_of told catalog index faults views moments = record {
-  told = told;
-  catalog = catalog;
-  index = index;
-  faults = faults;
-  views = views;
-  moments = moments;
-}
-
+-- a scene from what the objects show
 abbrev pub scene_of : Site → List ℕ → ℕ → List ℕ → ℕ → Scene
 scene_of site whole taken written sink_faults = record { site = site; whole = whole; taken = taken; written = written; sink_faults = sink_faults }
 

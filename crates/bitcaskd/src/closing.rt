@@ -10,8 +10,10 @@ use bk_disk::Disk;
 /// Syncs the data file after the input was read to its end, or as far as requests stand in it. A
 /// sync that fails changes the status of the first alone.
 pub fn close<D: Disk>(store: &mut Store<D>, status: Status) -> Status
-    requires { IsSyncedAt status → IsTrue D.tells → Stands (D.told store.old.files.disk) store.old.files.catalog store.old.index }
-    ensures image { IsTrue D.tells → (D.told store.new.files.disk).image ≡ (D.told store.old.files.disk).image }
+    requires { IsSyncedAt status → IsTrue D.tells → Stands (D.told store.old.files.disk)
+        store.old.files.catalog store.old.index }
+    ensures image { IsTrue D.tells → (D.told store.new.files.disk).image ≡
+        (D.told store.old.files.disk).image }
     ensures closes { ClosesBy D.tells status result (D.told store.new.files.disk)
         (D.faults store.old.files.disk) (D.faults store.new.files.disk) }
     ensures views { D.weak_views store.new.files.disk ≡ D.weak_views store.old.files.disk }

@@ -26,8 +26,18 @@ pub fn next_piece<S: Source>(reader: &mut Reader, source: &mut S, piece: &mut [u
     requires within { taken reader.old ≤ MOST }
     requires some { 0 < length piece.old }
     ensures gives { Gives result S.tells
-        (record { whole = S.whole source.old; taken = S.taken source.old; faults = S.faults source.old; stream = reader.old })
-        (record { whole = S.whole source.new; taken = S.taken source.new; faults = S.faults source.new; stream = reader.new }) }
+        (record {
+          whole = S.whole source.old;
+          taken = S.taken source.old;
+          faults = S.faults source.old;
+          stream = reader.old;
+        })
+        (record {
+          whole = S.whole source.new;
+          taken = S.taken source.new;
+          faults = S.faults source.new;
+          stream = reader.new;
+        }) }
     ensures faults { S.faults source.old ≤ S.faults source.new }
     ensures within { taken reader.new ≤ MOST }
     ensures most { reader.new.most ≡ MOST }

@@ -2,7 +2,7 @@
 ghost use Rattle.std.specs.Prelude.{◌≡◌, ◌⊎◌, ◌+◌, ◌*◌, ◌^◌, ◌<◌, ◌≤◌, ◌++◌, ℕ, length, IsTrue, OnOk, IfOk, OnErr, IsErrOf};
 ghost use Rattle.bk_disk.specs.Causes.{Rose};
 ghost use Rattle.bk_laws.specs.Wire.{Fits, request_text, reply_text};
-ghost use Rattle.bitcaskd.specs.Serving.{Answered, Served, Refused};
+ghost use Rattle.bitcaskd.specs.Serving.{Answered, Served, Refused, site_of};
 ghost use Rattle.bitcaskd.specs.Shelf.{FitsWithin};
 ghost use Rattle.bitcaskd.specs.Store.{Stands};
 
@@ -20,7 +20,8 @@ fn serve<D: Disk, C: Clock>(
     clock: &mut C,
     request: Request,
 ) -> Result<Reply, Refusal>
-    requires stands { IsTrue D.tells → Stands (D.told store.old.files.disk) store.old.files.catalog store.old.index }
+    requires stands { IsTrue D.tells → Stands (D.told store.old.files.disk)
+        store.old.files.catalog store.old.index }
     requires fits { Fits request }
     requires files { FitsWithin (2 ^ 56) store.old.files.catalog }
     requires seq { store.old.index.last + length (request_text request) < 2 ^ 63 }
@@ -28,12 +29,16 @@ fn serve<D: Disk, C: Clock>(
         → FitsWithin (most + 46 * length (request_text request)) store.new.files.catalog) }
     ensures last { OnOk result (store.new.index.last ≤ store.old.index.last + length
         (request_text request)) }
-    ensures ok { IfOk result (λ reply. Served D.tells C.tells request reply
-        (record { told = D.told store.old.files.disk; catalog = store.old.files.catalog; index = store.old.index; faults = D.faults store.old.files.disk; views = D.weak_views store.old.files.disk; moments = C.moments clock.old })
-        (record { told = D.told store.new.files.disk; catalog = store.new.files.catalog; index = store.new.index; faults = D.faults store.new.files.disk; views = D.weak_views store.new.files.disk; moments = C.moments clock.new })) }
-    ensures err { OnErr result (Refused D.tells C.tells request
-        (record { told = D.told store.old.files.disk; catalog = store.old.files.catalog; index = store.old.index; faults = D.faults store.old.files.disk; views = D.weak_views store.old.files.disk; moments = C.moments clock.old })
-        (record { told = D.told store.new.files.disk; catalog = store.new.files.catalog; index = store.new.index; faults = D.faults store.new.files.disk; views = D.weak_views store.new.files.disk; moments = C.moments clock.new })) }
+    ensures ok { let old = site_of (D.told store.old.files.disk) store.old.files.catalog store.old.index
+        (D.faults store.old.files.disk) (D.weak_views store.old.files.disk) (C.moments clock.old) in
+        let new = site_of (D.told store.new.files.disk) store.new.files.catalog store.new.index
+        (D.faults store.new.files.disk) (D.weak_views store.new.files.disk) (C.moments clock.new) in
+        IfOk result (λ reply. Served D.tells C.tells request reply old new) }
+    ensures err { let old = site_of (D.told store.old.files.disk) store.old.files.catalog store.old.index
+        (D.faults store.old.files.disk) (D.weak_views store.old.files.disk) (C.moments clock.old) in
+        let new = site_of (D.told store.new.files.disk) store.new.files.catalog store.new.index
+        (D.faults store.new.files.disk) (D.weak_views store.new.files.disk) (C.moments clock.new) in
+        OnErr result (Refused D.tells C.tells request old new) }
     ensures later { D.faults store.old.files.disk ≤ D.faults store.new.files.disk }
     ensures disk { IsErrOf result Refusal.Disk → Rose (D.faults store.old.files.disk)
         (D.faults store.new.files.disk) ⊎ Rose (D.weak_views store.old.files.disk)
@@ -61,7 +66,8 @@ pub fn answer<D: Disk, C: Clock>(
     replies: &mut Vec<u8>,
     request: Request,
 ) -> Result<(), Refusal>
-    requires stands { IsTrue D.tells → Stands (D.told store.old.files.disk) store.old.files.catalog store.old.index }
+    requires stands { IsTrue D.tells → Stands (D.told store.old.files.disk)
+        store.old.files.catalog store.old.index }
     requires fits { Fits request }
     requires files { FitsWithin (2 ^ 56) store.old.files.catalog }
     requires seq { store.old.index.last + length (request_text request) < 2 ^ 63 }
@@ -69,13 +75,17 @@ pub fn answer<D: Disk, C: Clock>(
         → FitsWithin (most + 46 * length (request_text request)) store.new.files.catalog) }
     ensures last { OnOk result (store.new.index.last ≤ store.old.index.last + length
         (request_text request)) }
-    ensures ok { OnOk result (Answered D.tells C.tells request
-        (record { told = D.told store.old.files.disk; catalog = store.old.files.catalog; index = store.old.index; faults = D.faults store.old.files.disk; views = D.weak_views store.old.files.disk; moments = C.moments clock.old })
-        (record { told = D.told store.new.files.disk; catalog = store.new.files.catalog; index = store.new.index; faults = D.faults store.new.files.disk; views = D.weak_views store.new.files.disk; moments = C.moments clock.new })
-        replies.old.items replies.new.items) }
-    ensures err { OnErr result (Refused D.tells C.tells request
-        (record { told = D.told store.old.files.disk; catalog = store.old.files.catalog; index = store.old.index; faults = D.faults store.old.files.disk; views = D.weak_views store.old.files.disk; moments = C.moments clock.old })
-        (record { told = D.told store.new.files.disk; catalog = store.new.files.catalog; index = store.new.index; faults = D.faults store.new.files.disk; views = D.weak_views store.new.files.disk; moments = C.moments clock.new })) }
+    ensures ok { let old = site_of (D.told store.old.files.disk) store.old.files.catalog store.old.index
+        (D.faults store.old.files.disk) (D.weak_views store.old.files.disk) (C.moments clock.old) in
+        let new = site_of (D.told store.new.files.disk) store.new.files.catalog store.new.index
+        (D.faults store.new.files.disk) (D.weak_views store.new.files.disk) (C.moments clock.new) in
+        OnOk result
+        (Answered D.tells C.tells request old new replies.old.items replies.new.items) }
+    ensures err { let old = site_of (D.told store.old.files.disk) store.old.files.catalog store.old.index
+        (D.faults store.old.files.disk) (D.weak_views store.old.files.disk) (C.moments clock.old) in
+        let new = site_of (D.told store.new.files.disk) store.new.files.catalog store.new.index
+        (D.faults store.new.files.disk) (D.weak_views store.new.files.disk) (C.moments clock.new) in
+        OnErr result (Refused D.tells C.tells request old new) }
     ensures kept { OnErr result (replies.new.items ≡ replies.old.items) }
     ensures later { D.faults store.old.files.disk ≤ D.faults store.new.files.disk }
     ensures disk { IsErrOf result Refusal.Disk → Rose (D.faults store.old.files.disk)

@@ -4,10 +4,10 @@ ghost use Rattle.bk_disk.specs.Causes.{Rose};
 ghost use Rattle.bk_laws.specs.Wire.{Fits, IsPartial, request_text};
 ghost use Rattle.bk_wire.specs.Stream.{taken};
 ghost use Rattle.bitcaskd.specs.Run.{IsBuilt, telling};
-ghost use Rattle.bitcaskd.specs.Serving.{Site};
 ghost use Rattle.bitcaskd.specs.Shelf.{FitsWithin};
 ghost use Rattle.bitcaskd.specs.Store.{Holds, Stands};
-ghost use Rattle.bitcaskd.specs.Talking.{Asks, Flushed, WritesSome, StopsAtBad, Turns, IsReady, Stopped, after_input, status_of, site_of, scene_of, work_left};
+ghost use Rattle.bitcaskd.specs.Serving.{Site, site_of};
+ghost use Rattle.bitcaskd.specs.Talking.{Asks, Flushed, WritesSome, StopsAtBad, Turns, IsReady, Stopped, after_input, status_of, scene_of, work_left};
 
 use crate::input::{Input, MOST, next_piece};
 use crate::output::flush;
@@ -51,7 +51,8 @@ fn ask<D: Disk, K: Sink, C: Clock>(
     sink: &mut K,
     request: Request,
 ) -> Option<Status>
-    requires stands { IsTrue D.tells → Stands (D.told store.old.files.disk) store.old.files.catalog store.old.index }
+    requires stands { IsTrue D.tells → Stands (D.told store.old.files.disk)
+        store.old.files.catalog store.old.index }
     requires fits { Fits request }
     requires files { FitsWithin (46 * MOST) store.old.files.catalog }
     requires last { store.old.index.last + length (request_text request) ≤ MOST }
@@ -62,11 +63,11 @@ fn ask<D: Disk, K: Sink, C: Clock>(
     ensures stands { result ≡ None → IsTrue D.tells → Stands
         (D.told store.new.files.disk) store.new.files.catalog store.new.index }
     ensures turns { Asks result D.tells K.tells C.tells request
-        (site_of (D.told store.old.files.disk) store.old.files.catalog store.old.index (D.faults store.old.files.disk)
-        (D.weak_views store.old.files.disk) (C.moments clock.old))
+        (site_of (D.told store.old.files.disk) store.old.files.catalog store.old.index
+        (D.faults store.old.files.disk) (D.weak_views store.old.files.disk) (C.moments clock.old))
         (K.written sink.old) (K.faults sink.old) replies.old.items
-        (site_of (D.told store.new.files.disk) store.new.files.catalog store.new.index (D.faults store.new.files.disk)
-        (D.weak_views store.new.files.disk) (C.moments clock.new))
+        (site_of (D.told store.new.files.disk) store.new.files.catalog store.new.index
+        (D.faults store.new.files.disk) (D.weak_views store.new.files.disk) (C.moments clock.new))
         (K.written sink.new) (K.faults sink.new) replies.new.items }
     ensures disk { result ≡ Some Status.Disk → Rose (D.faults store.old.files.disk)
         (D.faults store.new.files.disk) ⊎ Rose (D.weak_views store.old.files.disk)
@@ -174,7 +175,8 @@ fn turn<D: Disk, S: Source, K: Sink, C: Clock>(
     sink: &mut K,
     clock: &mut C,
 ) -> Option<Status>
-    requires stands { IsTrue D.tells → Stands (D.told store.old.files.disk) store.old.files.catalog store.old.index }
+    requires stands { IsTrue D.tells → Stands (D.told store.old.files.disk)
+        store.old.files.catalog store.old.index }
     requires ready { IsReady store.old.files.catalog store.old.index desk.old.reader
         desk.old.piece.items }
     ensures stands { result ≡ None → IsTrue D.tells → Stands
@@ -183,12 +185,12 @@ fn turn<D: Disk, S: Source, K: Sink, C: Clock>(
         desk.new.reader desk.new.piece.items }
     ensures fewer { result ≡ None → work_left desk.new.reader < work_left desk.old.reader }
     ensures turns { Turns result (telling D.tells S.tells K.tells C.tells)
-        (scene_of (site_of (D.told store.old.files.disk) store.old.files.catalog store.old.index (D.faults store.old.files.disk)
-        (D.weak_views store.old.files.disk) (C.moments clock.old))
+        (scene_of (site_of (D.told store.old.files.disk) store.old.files.catalog store.old.index
+        (D.faults store.old.files.disk) (D.weak_views store.old.files.disk) (C.moments clock.old))
         (S.whole source.old) (S.taken source.old) (K.written sink.old)
         (K.faults sink.old)) desk.old.reader desk.old.replies.items
-        (scene_of (site_of (D.told store.new.files.disk) store.new.files.catalog store.new.index (D.faults store.new.files.disk)
-        (D.weak_views store.new.files.disk) (C.moments clock.new))
+        (scene_of (site_of (D.told store.new.files.disk) store.new.files.catalog store.new.index
+        (D.faults store.new.files.disk) (D.weak_views store.new.files.disk) (C.moments clock.new))
         (S.whole source.new) (S.taken source.new) (K.written sink.new)
         (K.faults sink.new)) desk.new.reader desk.new.replies.items }
     ensures faults { D.faults store.old.files.disk ≤ D.faults store.new.files.disk }
@@ -252,19 +254,21 @@ pub fn talk<D: Disk, S: Source, K: Sink, C: Clock>(
     sink: &mut K,
     clock: &mut C,
 ) -> Status
-    requires holds { IsTrue D.tells → Holds (D.told store.old.files.disk) store.old.files.catalog store.old.index [] }
+    requires holds { IsTrue D.tells → Holds (D.told store.old.files.disk)
+        store.old.files.catalog store.old.index [] }
     requires files { FitsWithin 0 store.old.files.catalog }
     requires last { store.old.index.last ≡ 0 }
     ensures stopped { Stopped (telling D.tells S.tells K.tells C.tells)
-        (scene_of (site_of (D.told store.old.files.disk) store.old.files.catalog store.old.index (D.faults store.old.files.disk)
-        (D.weak_views store.old.files.disk) (C.moments clock.old))
+        (scene_of (site_of (D.told store.old.files.disk) store.old.files.catalog store.old.index
+        (D.faults store.old.files.disk) (D.weak_views store.old.files.disk) (C.moments clock.old))
         (S.whole source.old) (S.taken source.old) (K.written sink.old) (K.faults sink.old))
-        (scene_of (site_of (D.told store.new.files.disk) store.new.files.catalog store.new.index (D.faults store.new.files.disk)
-        (D.weak_views store.new.files.disk) (C.moments clock.new))
+        (scene_of (site_of (D.told store.new.files.disk) store.new.files.catalog store.new.index
+        (D.faults store.new.files.disk) (D.weak_views store.new.files.disk) (C.moments clock.new))
         (S.whole source.new) (S.taken source.new) (K.written sink.new) (K.faults sink.new)) result }
     ensures faults { D.faults store.old.files.disk ≤ D.faults store.new.files.disk }
-    ensures disk { result ≡ Status.Disk → Rose (D.faults store.old.files.disk) (D.faults store.new.files.disk)
-        ⊎ Rose (D.weak_views store.old.files.disk) (D.weak_views store.new.files.disk) }
+    ensures disk { result ≡ Status.Disk → Rose (D.faults store.old.files.disk)
+        (D.faults store.new.files.disk) ⊎ Rose (D.weak_views store.old.files.disk)
+        (D.weak_views store.new.files.disk) }
     ensures source { result ≡ Status.Source → Rose (S.faults source.old) (S.faults source.new) }
     ensures sink { result ≡ Status.Sink → Rose (K.faults sink.old) (K.faults sink.new) }
     ensures built { IsBuilt result }

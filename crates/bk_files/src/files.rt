@@ -199,6 +199,11 @@ impl<D: Disk> Files<D> {
             (Rolled self.old.catalog (D.told self.old.disk) (D.told self.new.disk)) }
         ensures half { IsTrue D.tells → OnErr result
             (HalfRolled self.old.catalog (D.told self.old.disk) (D.told self.new.disk)) }
+        ensures untouched { IsTrue D.tells → IsErrOf result RollError.FullFiles
+            → D.told self.new.disk ≡ D.told self.old.disk }
+        ensures unmade { IsTrue D.tells → IsErrOf result RollError.Memory
+            → (D.told self.new.disk ≡ D.told self.old.disk)
+            ⊎ Settled self.old.catalog (D.told self.old.disk) (D.told self.new.disk) }
         ensures stands { IsTrue D.tells → Stands self.new.catalog (D.told self.new.disk) }
         ensures later { D.faults self.old.disk ≤ D.faults self.new.disk }
         ensures disk { IsErrOf result RollError.Disk

@@ -1,5 +1,5 @@
 use Rattle.std.proofs.Common.{◌∙◌, ap, refl}
-use Rattle.bitcaskd.specs.Talking.{site_of}
+use Rattle.bitcaskd.specs.Serving.{site_of}
 use Rattle.bitcaskd.proofs.ClosingLaws.{closed}
 use Rattle.bitcaskd.proofs.run.over_empty.Goals as goal
 

@@ -2,7 +2,8 @@ use Rattle.std.proofs.Common.{◌≤◌, List, IsTrue}
 use Rattle.bk_laws.specs.Session.{Turn}
 use Rattle.bitcaskd.specs.Run.{telling}
 use Rattle.bitcaskd.specs.Store.{Stands}
-use Rattle.bitcaskd.specs.Talking.{SoFar, IsReady, site_of, scene_of, work_left}
+use Rattle.bitcaskd.specs.Serving.{site_of}
+use Rattle.bitcaskd.specs.Talking.{SoFar, IsReady, scene_of, work_left}
 use Rattle.bitcaskd.proofs.talking.talk.Given as goal
 
 abbrev pub invariant-turns : goal.invariant-turns
