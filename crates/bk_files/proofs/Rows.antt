@@ -68,11 +68,20 @@ kept_cut n m len t u h b = (cut_ours m n len t u b, ap (λ i. bytes_of m i) b.im
 pub kept_synced : (n m : Name) (t u : Told) → Synced n t u → Kept m t u
 kept_synced n m t u b = (synced_ours m n t u b, ap (λ i. bytes_of m i) b.image)
 
+pub made_at : (n m : Name) (t u : Told) → same m n ≡ false → Made n false t u → at u.image m ≡ at t.image m
+made_at n m t u h b = ap (λ i. at i m) b.image ∙ at-with_name_other n m [] t.image h
+
+pub made_front : (n m : Name) (t u : Told) → same m n ≡ false → Made n false t u → at u.fronts m ≡ at t.fronts m
+made_front n m t u h b = ap (λ fs. at fs m) b.fronts ∙ at-with_name_other n m (fresh false) t.fronts h
+
 pub kept_made : (n m : Name) (t u : Told) → same m n ≡ false → Made n false t u → Kept m t u
-kept_made n m t u h b =
-    let image : at u.image m ≡ at t.image m = ap (λ i. at i m) b.image ∙ at-with_name_other n m [] t.image h in
-    let front : at u.fronts m ≡ at t.fronts m = ap (λ fs. at fs m) b.fronts ∙ at-with_name_other n m (fresh false) t.fronts h in
-    (λ ours. (subst (λ (o : Option (List ℕ)). IsSome o) (sym image) ours.0, subst (λ (o : Option Front). IsSomeAnd o (λ f. f.lent ≡ false)) (sym front) ours.1), rw image refl)
+kept_made n m t u h b = (
+  λ ours. (
+    subst (λ (o : Option (List ℕ)). IsSome o) (sym (made_at n m t u h b)) ours.0,
+    subst (λ (o : Option Front). IsSomeAnd o (λ f. f.lent ≡ false)) (sym (made_front n m t u h b)) ours.1,
+  ),
+  rw (made_at n m t u h b) refl,
+)
 
 -- Rows over a disk whose files read the same
 

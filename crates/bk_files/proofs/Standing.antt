@@ -15,13 +15,13 @@ use Rattle.bk_disk.specs.Told.{Table, Front, Told, at, bytes_of, with_name, IsOu
 use Rattle.bk_disk.specs.Calls.{Appended, Synced, Cut, Made, all_safe, fresh, handed_more, viewed}
 use Rattle.bk_disk.proofs.Names.{same_eq}
 use Rattle.bk_disk.proofs.Files.{appended_ours, appended_bytes, appended_whole, bytes_of-changed_other, cut_bytes, cut_ours, made_bytes, made_ours, synced_ours, there_in_both}
-use Rattle.bk_disk.proofs.Tables.{at-changed, at-changed_other, at-with_name, at-with_name_other}
+use Rattle.bk_disk.proofs.Tables.{at-changed, at-changed_other, at-with_name}
 use Rattle.bk_files.specs.declared.catalog.Active.{Active}
 use Rattle.bk_files.specs.declared.catalog.Catalog.{Catalog}
 use Rattle.bk_files.specs.Catalog.{Begins, Grows, due_of, edited, grown_of, is_due, len_of, main, new_row, sealed, torn_of, with_counts, with_len, with_torn}
 use Rattle.bk_files.specs.Rows.{AreRows, AreSealed, IsRecord}
 use Rattle.bk_files.specs.Files.{IsActive, IsUnused, Stands, StandsFor}
-use Rattle.bk_files.proofs.Rows.{kept_appended, kept_cut, kept_made, kept_synced, rows_begun, rows_counted, rows_grown, rows_kept, rows_sealed, rows_still}
+use Rattle.bk_files.proofs.Rows.{kept_appended, kept_cut, kept_made, kept_synced, made_at, made_front, rows_begun, rows_counted, rows_grown, rows_kept, rows_sealed, rows_still}
 
 abbrev IsSafeTo : ℕ → Option Front → Type 0
 IsSafeTo len o = IfSome o (λ f. length f.safe ≤ len)
@@ -63,12 +63,6 @@ unused_synced : (n m : Name) (t u : Told) → same m n ≡ false → Synced n t 
 unused_synced n m t u h b w = unused_same m t u
     (ap (λ i. bytes_of m i) b.image)
     (ap (λ fs. at fs m) b.fronts ∙ at-changed_other n m (all_safe (bytes_of n t.image)) t.fronts h) w
-
-made_at : (n m : Name) (t u : Told) → same m n ≡ false → Made n false t u → at u.image m ≡ at t.image m
-made_at n m t u h b = ap (λ i. at i m) b.image ∙ at-with_name_other n m [] t.image h
-
-made_front : (n m : Name) (t u : Told) → same m n ≡ false → Made n false t u → at u.fronts m ≡ at t.fronts m
-made_front n m t u h b = ap (λ fs. at fs m) b.fronts ∙ at-with_name_other n m (fresh false) t.fronts h
 
 unused_made : (n m : Name) (t u : Told) → same m n ≡ false → Made n false t u → IsUnused m t → IsUnused m u
 unused_made n m t u h b w = unused_same m t u (rw (made_at n m t u h b) refl) (made_front n m t u h b) w
