@@ -1,5 +1,6 @@
 //! A scan over a disk in memory: what it finds of a file that is whole, changed or cut.
-ghost use Rattle.std.specs.Prelude.{◌≡◌, ◌≤◌, ◌++◌, length, IfOk};
+ghost use Rattle.std.specs.Prelude.{◌≡◌, ◌≤◌, ◌++◌, length, IsTrue, IfOk};
+ghost use Rattle.bk_disk.specs.Told.{range_of};
 ghost use Rattle.bk_laws.specs.Record.{AreRecords, records_of};
 ghost use Rattle.bk_files.specs.Scan.{IsTold};
 
@@ -79,6 +80,16 @@ fn all_of<V: View>(scan: &mut Scan, alloc: Global, view: &mut V) -> Result<Vec<W
     Ok(writes)
 }
 
+// All records of a file of any disk.
+fn all_in<D: Disk>(disk: &mut D, alloc: Global, name: Name, len: u64) -> Result<Vec<Write>, Fail>
+    ensures { IsTrue D.tells → IfOk result (λ writes.
+        AreRecords (range_of name 0 len (D.told disk.old).image) writes.items) }
+{
+    let mut view = disk.view(name, 0, len)?;
+    let mut scan = Scan::new(alloc, FileId(name.id), len);
+    all_of(&mut scan, alloc, &mut view)
+}
+
 #[test]
 fn whole_records_are_found(rt: HostRuntime) -> Result<(), Fail> {
     let mut text = text(rt.alloc())?;
@@ -106,9 +117,7 @@ fn a_read_that_fails_is_told(rt: HostRuntime) -> Result<(), Fail> {
     assert_eq!(rt; scan.next(&mut view).err(), Some(ScanError::Read));
     assert_eq!(rt; scan.place(), 0);
     assert_eq!(rt; scan.file(), FileId(1));
-    let mut view = disk.view(FILE, 0, len)?;
-    let mut scan = Scan::new(rt.alloc(), FileId(1), len);
-    let writes = all_of(&mut scan, rt.alloc(), &mut view)?;
+    let writes = all_in(&mut disk, rt.alloc(), FILE, len)?;
     assert_eq!(rt; writes.len(), 3);
     Ok(())
 }
