@@ -156,6 +156,7 @@ impl Directory {
         requires { copy.items ≡ bytes.items }
         ensures ok { OnOk result (Placed name bytes.items self.old.told self.new.told) }
         ensures err { OnErr result (self.new ≡ self.old) }
+        ensures rooms { (n : Name) → same n name ≡ false → room_of self.old n ≤ room_of self.new n }
     {
         self.journal.reserve(self.reserved.saturating_add(1))?;
         let place = MemFile::of(self.alloc, name, bytes);

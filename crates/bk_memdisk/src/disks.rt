@@ -28,7 +28,9 @@ pub struct MemDisk {
 impl MemDisk {
     ghost use Rattle.bk_disk.specs.Told.{nothing_told, at};
     ghost use Rattle.bk_disk.specs.Stops.{MayLeaveNow, IsSynced};
-    ghost use Rattle.bk_memdisk.specs.Contents.{Placed};
+    ghost use Rattle.bk_memdisk.specs.Contents.{Placed, room_of};
+    ghost use Rattle.bk_base.specs.declared.names.Name.{Name};
+    ghost use Rattle.bk_disk.specs.Names.{same};
     ghost use Rattle.bk_memdisk.specs.Crash.{crashed};
     ghost use Rattle.bk_memdisk.specs.Plans.{nothing_chosen, chosen, fused};
     ghost use Rattle.bk_memdisk.specs.Disk.{told_by, calls_of, views_of, faults_of, weak_views_of, SameCounts};
@@ -55,6 +57,8 @@ impl MemDisk {
     pub fn place(&mut self, name: Name, bytes: &[u8]) -> Result<(), Memory>
         ensures ok { OnOk result (Placed name bytes.now (told_by self.old) (told_by self.new)) }
         ensures err { OnErr result (told_by self.new ≡ told_by self.old) }
+        ensures rooms { (n : Name) → same n name ≡ false → room_of self.old.directory n
+            ≤ room_of self.new.directory n }
         ensures plans { (calls_of self.new ≡ calls_of self.old) × (views_of self.new ≡ views_of self.old) }
         ensures counts { SameCounts self.old self.new }
     {

@@ -46,3 +46,13 @@ invariant_of-self-2 c =
       reserved = rw c.owed.ensures.value (omega (arith, sums, c.of-place.ensures.owed));
       room = omega (arith, c.in_ok-reserve.ensures.ok, c.push_reserved-2.ensures.len, c.push_reserved-2.ensures.capacity);
     }
+
+pub returns-in_default-clause-rooms : goal.returns-in_default-clause-rooms
+returns-in_default-clause-rooms c n other = rw (← c.self.view_is, c.in_ok-push.ensures.items) (Listings.added_rooms c.self.inside.files.items c.of-place.result n)
+
+pub returns-clause-rooms : goal.returns-clause-rooms
+returns-clause-rooms c n other =
+    let first = rw c.deref.ensures.value at (found c.args.name c.deref.result.now c.in-Some.index (sym c.find.ensures.place ∙ c.in-Some.is)) in
+    let same_name = c.of-place.ensures.name ∙ sym (Edits.name_is c.args.name c.self.inside.files.items (after_all [] c.self.inside.journal.items) c.in-Some.index c.index_mut-file.result.now c.self.invariant.tied first c.index_mut-file.ensures.value) in
+    let same_rooms = Edits.other_rooms c.args.name c.self.inside.files.items c.in-Some.index c.index_mut-file.result.now c.of-place.result first c.index_mut-file.ensures.value same_name n other in
+    rw (← c.self.view_is) (omega (arith, same_rooms))
