@@ -1,14 +1,12 @@
 -- How far a run has come between two requests, and where it ended.
 use Rattle.std.specs.Prelude.{◌≡◌, ◌⊎◌, ℕ, ◌+◌, ◌-◌, ◌*◌, ◌<◌, ◌≤◌, List, [], ◌++◌, Bool, true, false, Option, None, Some, IsTrue, length, drop}
 use Rattle.std.specs.List.{AllByRecursion}
-use Rattle.bk_base.specs.declared.numbers.Moment.{Moment}
 use Rattle.bk_base.specs.declared.histories.Step.{Step}
 use Rattle.bk_base.specs.declared.requests.Request.{Request}
 use Rattle.bk_base.specs.declared.statuses.Status.{Status}
 use Rattle.bk_base.specs.declared.statuses.Status.TheVariants.{Done, Memory, Disk, Source, Sink, Long, NotBuilt}
 use Rattle.bk_base.specs.declared.writes.Write.{Write}
 use Rattle.bk_disk.specs.Causes.{Rose}
-use Rattle.bk_disk.specs.Told.{Told}
 use Rattle.bk_files.specs.declared.catalog.Catalog.{Catalog}
 use Rattle.bk_laws.specs.History.{IsLegal, state_of, entries}
 use Rattle.bk_laws.specs.Session.{Turn, IsTurn, Talk, IsTalk, all_turns, requests_of, replies_of, steps_of, moments_of}

@@ -188,7 +188,7 @@ impl<D: Disk> Files<D> {
 
     /// Syncs the active file, where there is one, seals it, and makes the next file the active one.
     /// There is nothing to repair. `FullFiles` comes exactly where the last file number is given
-    /// out. After a refusal the files are as before, but the next one may stand there empty.
+    /// out. After a refusal the files are as before, but after `Disk` the next one may stand there empty.
     pub fn roll(&mut self) -> Result<(), RollError>
         requires stands { IsTrue D.tells → Stands self.old.catalog (D.told self.old.disk) }
         requires whole { torn_of self.old.catalog.active ≡ false }
