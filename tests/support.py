@@ -165,7 +165,7 @@ class StoreTest(unittest.TestCase):
         self.assertTrue((ended.stdout or b"") == output, "the output has other bytes")
 
     def assert_holds(self, writes, since=0, name=DATA_FILE, first=1):
-        """The data file is exactly the records of these puts, numbered from `first`, each with a moment from `since` to now."""
+        """The data file is exactly the records of these puts, numbered from `first`, with moments from `since` to now."""
         text = (self.folder / name).read_bytes()
         now, packed = int(time.time()), bytearray()
         for seq, (key, value) in enumerate(writes, first):

@@ -23,7 +23,8 @@ class Rolling(StoreTest):
 
     def test_a_record_that_misses_by_one_byte(self):
         chance = random.Random(6)
-        writes = [(key, chance.randbytes(QUARTER)) for key in (b"a", b"b", b"c")] + [(b"d", chance.randbytes(QUARTER + 1))]
+        writes = [(key, chance.randbytes(QUARTER)) for key in (b"a", b"b", b"c")]
+        writes.append((b"d", chance.randbytes(QUARTER + 1)))
         given = b"".join(put(*write) + get(write[0]) for write in writes)
         replies = b"".join(numbered(seq) + found(value) for seq, (_, value) in enumerate(writes, 1))
         self.assert_ended(self.pipe(given), 0, replies)
