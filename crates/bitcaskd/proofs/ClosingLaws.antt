@@ -10,16 +10,17 @@ use Rattle.bk_base.specs.declared.statuses.Status.{Status}
 use Rattle.bk_base.specs.declared.statuses.Status.TheVariants.{Done, Memory, Words, Disk, Source, Sink, Syntax, Settings, Damaged, Full, Long, NotBuilt, Door}
 use Rattle.bk_base.specs.declared.writes.Write.{Write}
 use Rattle.bk_disk.specs.Causes.{Rose}
-use Rattle.bk_disk.specs.Told.{Told}
+use Rattle.bk_disk.specs.Told.{Image, Told}
 use Rattle.bk_laws.specs.History.{State}
 use Rattle.bk_laws.specs.Session.{all_turns, steps_of, replies_of}
 use Rattle.bitcaskd.specs.Closing.{ClosesBy, IsSyncedAt}
 use Rattle.bitcaskd.specs.Counts.{Counted}
-use Rattle.bitcaskd.specs.Run.{Telling, Outside, IsBuilt, Reads, Writes, Closes, TakesMost, all_steps, Runs}
+use Rattle.bitcaskd.specs.Run.{Telling, Outside, IsBuilt, Reads, Writes, Closes, TakesMost, all_steps, Runs, IsImageAt, IsServed}
 use Rattle.bitcaskd.specs.Serving.{Site}
 use Rattle.bitcaskd.specs.Store.{Stands, IsImageOf}
 use Rattle.bitcaskd.specs.Talking.{Scene, outside_of, LeadTo, StandsAfter, LeftAfter, CountedOver, EndsAt, Stopped}
-use Rattle.bitcaskd.proofs.StoreLaws.{image_of}
+use Rattle.bitcaskd.specs.Shelf.{filed, files}
+use Rattle.bitcaskd.proofs.StoreLaws.{exact_image}
 use Rattle.bitcaskd.proofs.ServingLaws.{no_glance, step_of}
 use Rattle.bitcaskd.proofs.TalkingLaws.{at_site, leads_on, counts_on}
 
@@ -38,45 +39,87 @@ opening_of start = record {
 -- the run, from its talk and the steps that close it
 runs : (tells : Telling) (start now : Scene) (site : Site) (status result : Status) (closing : List Step) (s : Stopped tells start now status)
     → (IsTrue tells.disk → start.site.told.image ≡ [])
-    → (IsTrue tells.disk → (log tried : List Write) × LeadTo (all_steps s.talk closing) log × (length tried ≤ 1) × IsImageOf site.told.image log tried)
+    → (IsTrue tells.disk → (log : List Write) × LeadTo (all_steps s.talk closing) log × IsImageAt result site.told.image log)
+    → IsServed result s.talk
     → CountedOver start.site site (all_steps s.talk closing) → Closes tells.disk site.told result closing
     → (IsTrue tells.source → Reads result (drop start.taken start.whole) s.talk)
     → ((out : List ℕ) → Writes status start.sink_faults now.sink_faults out (replies_of s.talk.served) → Writes result start.sink_faults now.sink_faults out (replies_of s.talk.served))
     → TakesMost result tells.source start.taken now.taken → site.moments ≡ now.site.moments
     → Runs tells (outside_of start) (outside_of (at_site now site)) result
 unfolding opening_of
-runs tells start now site status result closing s listed after counts closes reads writes most same = record {
+runs tells start now site status result closing s listed after served counts closes reads writes most same = record {
   opening = opening_of start;
   talk = s.talk;
   closing = closing;
   is_new = record { log = refl; folds = refl; ttl = refl };
   listed = listed;
   said = s.said;
+  served = served;
   reads = reads;
   writes = λ t. let (out, is, wrote) = s.writes t in (out, is, writes out wrote);
   ticks = λ t. rw same (s.ticks t);
   closes = closes;
   most = most;
-  legal = λ t. let (log, tried, leads, few, image) = after t in leads.legal;
-  image = λ t. let (log, tried, leads, few, image) = after t in
-      (tried, few, subst (λ (l : List Write). IsImageOf site.told.image l tried) (sym (ap (λ (st : State). st.log) leads.state)) image);
+  legal = λ t. let (log, leads, image) = after t in leads.legal;
+  image = λ t. let (log, leads, image) = after t in
+      subst (λ (l : List Write). IsImageAt result site.told.image l) (sym (ap (λ (st : State). st.log) leads.state)) image;
   from = omega arith;
   from_views = omega arith;
   faults = counts.faults;
   views = counts.views;
 }
 
+-- the files are exactly those of the log, whatever the status
+exact_at : (status : Status) (image : Image) (log : List Write) → image ≡ files (filed log) → IsImageAt status image log
+exact_at Done image log is = is
+exact_at Memory image log is = ([], omega arith, inl is)
+exact_at Words image log is = is
+exact_at Disk image log is = ([], omega arith, inl is)
+exact_at Source image log is = is
+exact_at Sink image log is = is
+exact_at Syntax image log is = is
+exact_at Settings image log is = is
+exact_at Damaged image log is = is
+exact_at Full image log is = is
+exact_at Long image log is = is
+exact_at NotBuilt image log is = is
+exact_at Door image log is = is
+
+exact_after : (status : Status) (site : Site) (steps : List Step) → StandsAfter site steps → (log : List Write) × LeadTo steps log × IsImageAt status site.told.image log
+exact_after status site steps stood = let (log, leads, holds) = stood in
+    (log, leads, exact_at status site.told.image log (exact_image site.told site.catalog site.index log holds))
+
+left_after : (site : Site) (steps : List Step) → LeftAfter site steps → (log : List Write) × LeadTo steps log × ((tried : List Write) × (length tried ≤ 1) × IsImageOf site.told.image log tried)
+left_after site steps left = let (log, tried, leads, few, image) = left in (log, leads, (tried, few, image))
+
+-- what the files hold where the talk ended so
+image_at : (status : Status) (site : Site) (steps : List Step) → EndsAt status site steps → (log : List Write) × LeadTo steps log × IsImageAt status site.told.image log
+image_at Done site steps ends = exact_after Done site steps ends
+image_at Memory site steps ends = left_after site steps ends
+image_at Words site steps ends = exact_after Words site steps ends
+image_at Disk site steps ends = left_after site steps ends
+image_at Source site steps ends = exact_after Source site steps ends
+image_at Sink site steps ends = exact_after Sink site steps ends
+image_at Syntax site steps ends = exact_after Syntax site steps ends
+image_at Settings site steps ends = exact_after Settings site steps ends
+image_at Damaged site steps ends = exact_after Damaged site steps ends
+image_at Full site steps ends = exact_after Full site steps ends
+image_at Long site steps ends = exact_after Long site steps ends
+image_at NotBuilt site steps ends = exact_after NotBuilt site steps ends
+image_at Door site steps ends = exact_after Door site steps ends
+
 -- a run that no sync closes
 unsynced : (tells : Telling) (start now : Scene) (site : Site) (status : Status) (s : Stopped tells start now status)
-    → (IsTrue tells.disk → start.site.told.image ≡ []) → (IsTrue tells.disk → LeftAfter now.site (steps_of (all_turns s.talk)))
+    → (IsTrue tells.disk → start.site.told.image ≡ []) → (IsTrue tells.disk → EndsAt status now.site (steps_of (all_turns s.talk)))
     → Closes tells.disk site.told status []
     → (IsTrue tells.disk → site.told.image ≡ now.site.told.image) → site.faults ≡ now.site.faults → site.views ≡ now.site.views → site.moments ≡ now.site.moments
     → TakesMost status tells.source start.taken now.taken
     → Runs tells (outside_of start) (outside_of (at_site now site)) status
 unsynced tells start now site status s listed left closes image faults views moments most =
     runs tells start now site status status [] s listed
-    (λ t. let (log, tried, leads, few, held) = left t in
-    (log, tried, subst (λ (steps : List Step). LeadTo steps log) (sym (append-nil (steps_of (all_turns s.talk)))) leads, few, rw (image t) held))
+    (λ t. let (log, leads, held) = image_at status now.site (steps_of (all_turns s.talk)) (left t) in
+    (log, subst (λ (steps : List Step). LeadTo steps log) (sym (append-nil (steps_of (all_turns s.talk)))) leads, subst (λ (i : Image). IsImageAt status i log) (sym (image t)) held))
+    s.served
     (subst (λ (steps : List Step). CountedOver start.site site steps) (sym (append-nil (steps_of (all_turns s.talk))))
     (record { faults = rw faults s.counts.faults; views = rw views s.counts.views }))
     closes s.reads (λ out w. w) most moments
@@ -112,11 +155,10 @@ synced_run tells start now site status s listed stands closes image later views 
     runs tells start now site status status (sync_step now.site (site.faults - now.site.faults) ∷ []) s listed
     (λ t. let (log, leads, holds) = stands t in (
       log,
-      [],
       leads_on (steps_of (all_turns s.talk)) log (sync_step now.site (site.faults - now.site.faults)) log leads (record { legal = holds.last; state = refl }),
-      omega arith,
-      rw (image t) (image_of now.site.told now.site.catalog now.site.index log [] holds),
+      exact_at status site.told.image log (image t ∙ exact_image now.site.told now.site.catalog now.site.index log holds),
     ))
+    s.served
     (with_step start.site now.site site (steps_of (all_turns s.talk)) (sync_step now.site (site.faults - now.site.faults)) s.counts (inl (omega arith)) views refl)
     (closes (site.faults - now.site.faults)) s.reads (λ out w. w) most moments
 
@@ -127,18 +169,17 @@ failed_run : (tells : Telling) (start now : Scene) (site : Site) (status result 
     → (IsTrue tells.disk → site.told.image ≡ now.site.told.image) → site.views ≡ now.site.views → site.moments ≡ now.site.moments
     → (IsTrue tells.source → Reads result (drop start.taken start.whole) s.talk)
     → ((out : List ℕ) → Writes status start.sink_faults now.sink_faults out (replies_of s.talk.served) → Writes result start.sink_faults now.sink_faults out (replies_of s.talk.served))
-    → TakesMost result tells.source start.taken now.taken
+    → TakesMost result tells.source start.taken now.taken → IsServed result s.talk
     → Runs tells (outside_of start) (outside_of (at_site now site)) result
 unfolding quiet_step
-failed_run tells start now site status result s listed stands n closes counted image views moments reads writes most =
+failed_run tells start now site status result s listed stands n closes counted image views moments reads writes most served =
     runs tells start now site status result (quiet_step n ∷ []) s listed
     (λ t. let (log, leads, holds) = stands t in (
       log,
-      [],
       leads_on (steps_of (all_turns s.talk)) log (quiet_step n) log leads (record { legal = tt; state = refl }),
-      omega arith,
-      rw (image t) (image_of now.site.told now.site.catalog now.site.index log [] holds),
+      exact_at result site.told.image log (image t ∙ exact_image now.site.told now.site.catalog now.site.index log holds),
     ))
+    served
     (with_step start.site now.site site (steps_of (all_turns s.talk)) (quiet_step n) s.counts counted views refl)
     closes reads writes most moments
 
@@ -156,7 +197,7 @@ closed tells start now site Done result s listed (inr failed) image later views 
     let (n, some, counted) = risen now.site.faults site.faults later failed.1 in
     subst (λ (r : Status). Runs tells (outside_of start) (outside_of (at_site now site)) r) (sym failed.0)
     (failed_run tells start now site Done Disk s listed s.ends n (record { call = refl; failed = some }) counted image views moments
-    (λ t. ([], s.reads t ∙ sym (append-nil _))) (λ out w. inl w) tt)
+    (λ t. ([], s.reads t ∙ sym (append-nil _))) (λ out w. inl w) tt tt)
 closed tells start now site NotBuilt result s listed (is, inl synced) image later views moments =
     subst (λ (r : Status). Runs tells (outside_of start) (outside_of (at_site now site)) r) (sym is)
     (synced_run tells start now site NotBuilt s listed s.ends (λ n. inl (record { call = refl; synced = synced })) image later views moments tt)
@@ -164,7 +205,7 @@ closed tells start now site NotBuilt result s listed (is, inr rose) image later 
     let (n, some, counted) = risen now.site.faults site.faults later rose in
     subst (λ (r : Status). Runs tells (outside_of start) (outside_of (at_site now site)) r) (sym is)
     (failed_run tells start now site NotBuilt NotBuilt s listed s.ends n (inr (record { call = refl; failed = some })) counted image views moments
-    s.reads (λ out w. w) tt)
+    s.reads (λ out w. w) tt s.served)
 closed tells start now site Memory result s listed (is, same) image later views moments =
     subst (λ (r : Status). Runs tells (outside_of start) (outside_of (at_site now site)) r) (sym is) (unsynced tells start now site Memory s listed s.ends refl image same views moments s.most)
 closed tells start now site Words result s listed (is, same) image later views moments =
@@ -217,6 +258,7 @@ from_before tells told faults views old new status same later more r = record {
   is_new = r.is_new;
   listed = λ t. ap (λ (d : Told). d.image) (sym (same t)) ∙ r.listed t;
   said = r.said;
+  served = r.served;
   reads = r.reads;
   writes = r.writes;
   ticks = r.ticks;

@@ -25,7 +25,7 @@ use Rattle.bk_laws.specs.Record.{record_of, records_of, covered_of, fields_of, c
 use Rattle.bitcaskd.specs.declared.index.Index.{Index}
 use Rattle.bitcaskd.specs.Counts.{Counts}
 use Rattle.bitcaskd.specs.Index.{Seat, look, AddsPlace, SamePlaces}
-use Rattle.bitcaskd.specs.Shelf.{Shelf, Extends, IsLeft, IsOn, filed, filed_from, max_file, place_for, put_on}
+use Rattle.bitcaskd.specs.Shelf.{Shelf, Extends, IsLeft, IsOn, filed, filed_from, files, max_file, place_for, put_on}
 use Rattle.bitcaskd.specs.Store.{HasValueAt, PlaceStands, Holds, IsImageOf, put_of}
 use Rattle.bitcaskd.proofs.ShelfLaws.{half_repaired_on, image_on, repaired_on, settled_on, still_on}
 
@@ -136,7 +136,10 @@ reindexed t c x y log h places last = record {
 pub is_on : (t : Told) (c : Catalog) (x : Index) (log : List Write) → Holds t c x log → IsOn (filed log) t c
 is_on t c x log h = h.is_on
 
--- the files of a store hold the records of its log
+-- the files of a store are those of its log
+pub exact_image : (t : Told) (c : Catalog) (x : Index) (log : List Write) → Holds t c x log → t.image ≡ files (filed log)
+exact_image t c x log h = image_on (filed log) t c h.is_on
+
 pub image_of : (t : Told) (c : Catalog) (x : Index) (log tried : List Write) → Holds t c x log → IsImageOf t.image log tried
 image_of t c x log tried h = inl (image_on (filed log) t c h.is_on)
 

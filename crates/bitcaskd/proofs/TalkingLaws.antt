@@ -28,7 +28,7 @@ use Rattle.bitcaskd.specs.declared.refusals.Refusal.{Refusal}
 use Rattle.bitcaskd.specs.declared.refusals.Refusal.TheVariants.{Memory as refused_memory, Disk as refused_disk}
 use Rattle.bitcaskd.specs.Counts.{Counted}
 use Rattle.bitcaskd.specs.Output.{Wrote}
-use Rattle.bitcaskd.specs.Run.{Telling, telling, Reads, Writes, WrittenPart, TakesMost, most_taken, faults_in, views_in}
+use Rattle.bitcaskd.specs.Run.{Telling, telling, Reads, Writes, WrittenPart, TakesMost, most_taken, faults_in, views_in, IsServed}
 use Rattle.bitcaskd.specs.Serving.{Site, Ticks, plain, Leads, Answered, Refused}
 use Rattle.bitcaskd.specs.Store.{Holds}
 use Rattle.bitcaskd.specs.Talking.{Scene, LeadTo, StandsAfter, LeftAfter, CountedOver, SoFar, status_of, EndsAt, Stopped, MovesOut, FailsOut, WritesSome, Flushed, Inlet, TakesPiece, Gives, Asks, Turns, after_input, StopsAtBad, work_left, scene_of}
@@ -188,6 +188,22 @@ whole_talk served = record { served = served; cut = [] }
 is_whole : (served : List Turn) → AllByRecursion (IsTurn 0) served → IsTalk 0 (whole_talk served)
 is_whole served each = record { each = each; last = tt; one = omega arith }
 
+-- in such a talk every request was served
+all_served : (status : Status) (served : List Turn) → IsServed status (whole_talk served)
+all_served Done served = refl
+all_served Memory served = tt
+all_served Words served = refl
+all_served Disk served = tt
+all_served Source served = refl
+all_served Sink served = refl
+all_served Syntax served = refl
+all_served Settings served = refl
+all_served Damaged served = refl
+all_served Full served = refl
+all_served Long served = refl
+all_served NotBuilt served = refl
+all_served Door served = refl
+
 -- the files after a run that stood
 pub left_standing : (site : Site) (steps : List Step) → StandsAfter site steps → LeftAfter site steps
 left_standing site steps stood = let (log, leads, holds) = stood in (log, [], leads, omega arith, image_of site.told site.catalog site.index log [] holds)
@@ -196,16 +212,16 @@ ends_standing : (status : Status) (site : Site) (steps : List Step) → StandsAf
 ends_standing Done site steps stood = stood
 ends_standing NotBuilt site steps stood = stood
 ends_standing Memory site steps stood = left_standing site steps stood
-ends_standing Words site steps stood = left_standing site steps stood
+ends_standing Words site steps stood = stood
 ends_standing Disk site steps stood = left_standing site steps stood
-ends_standing Source site steps stood = left_standing site steps stood
-ends_standing Sink site steps stood = left_standing site steps stood
-ends_standing Syntax site steps stood = left_standing site steps stood
-ends_standing Settings site steps stood = left_standing site steps stood
-ends_standing Damaged site steps stood = left_standing site steps stood
-ends_standing Full site steps stood = left_standing site steps stood
-ends_standing Long site steps stood = left_standing site steps stood
-ends_standing Door site steps stood = left_standing site steps stood
+ends_standing Source site steps stood = stood
+ends_standing Sink site steps stood = stood
+ends_standing Syntax site steps stood = stood
+ends_standing Settings site steps stood = stood
+ends_standing Damaged site steps stood = stood
+ends_standing Full site steps stood = stood
+ends_standing Long site steps stood = stood
+ends_standing Door site steps stood = stood
 
 writes_whole : (status : Status) (before now : ℕ) (out replies : List ℕ) → out ≡ replies → Writes status before now out replies
 writes_whole Done before now out replies e = e
@@ -230,6 +246,7 @@ pub ends : (tells : Telling) (start now : Scene) (stream : Stream) (whole : List
 ends tells start now stream whole took served status so reads most = record {
   talk = whole_talk served;
   said = is_whole served so.each;
+  served = all_served status served;
   reads = reads;
   writes = λ t. let (out, was, made) = so.made t in
       (out, was, writes_whole status start.sink_faults now.sink_faults out (replies_of served) (sym (append-nil out) ∙ made));
@@ -258,6 +275,7 @@ pub sink_ends : (tells : Telling) (start now : Scene) (stream : Stream) (gathere
 sink_ends tells start now stream gathered written faults served so failed = record {
   talk = whole_talk served;
   said = is_whole served so.each;
+  served = refl;
   reads = some_left tells start now stream gathered served so;
   writes = λ t. let (out, was, made) = so.made t in let (part, rest, is, split) = failed.0 t in (
     out ++ part,
@@ -266,7 +284,7 @@ sink_ends tells start now stream gathered written faults served so failed = reco
   );
   ticks = λ t. subst (λ (ts : List Turn). Ticks (moments_of ts) start.site.moments now.site.moments) (sym (append-nil served)) (so.ticks t);
   most = tt;
-  ends = λ t. subst (λ (ts : List Turn). LeftAfter now.site (steps_of ts)) (sym (append-nil served)) (left_standing now.site (steps_of served) (so.stands t));
+  ends = λ t. subst (λ (ts : List Turn). StandsAfter now.site (steps_of ts)) (sym (append-nil served)) (so.stands t);
   counts = subst (λ (ts : List Turn). CountedOver start.site now.site (steps_of ts)) (sym (append-nil served)) so.counts;
 }
 
@@ -295,6 +313,7 @@ refused_ends tells start old site before after gathered written faults served re
     record {
       talk = record { served = served; cut = turn ∷ [] };
       said = record { each = so.each; last = (record { fits = stands.fits; silent = refl; made = r.made }, tt); one = omega arith };
+      served = tt;
       reads = λ t. (
         after.rest ++ drop old.taken old.whole,
         reads_on (drop start.taken start.whole) (requests_of served) before.rest (request_text request) after.rest (drop old.taken old.whole) (so.read t) stands.whole
@@ -318,7 +337,7 @@ refused_ends tells start old site before after gathered written faults served re
     }
 
 by_disk : (tells : Telling) (start now : Scene) → Stopped tells start now Memory → Stopped tells start now Disk
-by_disk tells start now s = record { talk = s.talk; said = s.said; reads = s.reads; writes = s.writes; ticks = s.ticks; most = s.most; ends = s.ends; counts = s.counts }
+by_disk tells start now s = record { talk = s.talk; said = s.said; served = tt; reads = s.reads; writes = s.writes; ticks = s.ticks; most = s.most; ends = s.ends; counts = s.counts }
 
 pub refusal_ends : (refusal : Refusal) (tells : Telling) (start old : Scene) (site : Site) (before after : Stream) (gathered written : List ℕ) (faults : ℕ) (served : List Turn) (request : Request)
     → SoFar tells start old before gathered served → StandsIn before.rest request after.rest
@@ -337,6 +356,7 @@ pub memory_ends : (tells : Telling) (start now : Scene) (stream : Stream) (gathe
 memory_ends tells start now stream gathered written faults served so flushed = record {
   talk = whole_talk served;
   said = is_whole served so.each;
+  served = tt;
   reads = some_left tells start now stream gathered served so;
   writes = λ t. last_written tells.sink start.written now.written gathered written start.sink_faults now.sink_faults faults (replies_of served) (so.made t) so.sink t flushed;
   ticks = λ t. subst (λ (ts : List Turn). Ticks (moments_of ts) start.site.moments now.site.moments) (sym (append-nil served)) (so.ticks t);

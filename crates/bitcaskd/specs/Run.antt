@@ -9,12 +9,13 @@ use Rattle.bk_base.specs.declared.statuses.Status.TheVariants.{Done, Memory, Dis
 use Rattle.bk_base.specs.declared.writes.Write.{Write}
 use Rattle.bk_disk.specs.Causes.{Rose}
 use Rattle.bk_disk.specs.Stops.{IsSynced}
-use Rattle.bk_disk.specs.Told.{Told}
+use Rattle.bk_disk.specs.Told.{Image, Told}
 use Rattle.bk_laws.specs.History.{IsLegalHistory, log_of}
 use Rattle.bk_laws.specs.Wire.{NoneStands}
 use Rattle.bk_laws.specs.Session.{Talk, IsTalk, all_turns, requests_of, replies_of, steps_of, moments_of}
 use Rattle.bitcaskd.specs.Counts.{Counted}
 use Rattle.bitcaskd.specs.Serving.{Ticks}
+use Rattle.bitcaskd.specs.Shelf.{filed, files}
 use Rattle.bitcaskd.specs.Store.{IsImageOf}
 
 -- which of the four objects tell their content
@@ -120,6 +121,19 @@ IsBuilt status = ⊥
 abbrev pub all_steps : Talk → List Step → List Step
 all_steps talk closing = steps_of (all_turns talk) ++ closing
 
+-- Only a run that was refused, by the disk or for want of memory, has a request that got no reply.
+abbrev pub IsServed : Status → Talk → Type 0
+IsServed Memory talk = Unit {0}
+IsServed Disk talk = Unit {0}
+IsServed status talk = talk.cut ≡ []
+
+-- The files are exactly those of the log. After such a refusal they may also have a first part of the
+-- one write that was tried.
+abbrev pub IsImageAt : Status → Image → List Write → Type 0
+IsImageAt Memory image log = (tried : List Write) × (length tried ≤ 1) × IsImageOf image log tried
+IsImageAt Disk image log = (tried : List Write) × (length tried ≤ 1) × IsImageOf image log tried
+IsImageAt status image log = image ≡ files (filed log)
+
 -- an opening without writes and folds, and without a time to live
 pub record IsNew (o : Opening) : Type 0 where
   pub log : o.log ≡ []
@@ -134,13 +148,14 @@ pub record Runs (tells : Telling) (old new : Outside) (status : Status) : Type 0
   pub is_new : IsNew opening
   pub listed : IsTrue tells.disk → old.told.image ≡ []
   pub said : IsTalk 0 talk
+  pub served : IsServed status talk
   pub reads : IsTrue tells.source → Reads status (drop old.taken old.whole) talk
   pub writes : IsTrue tells.sink → (out : List ℕ) × (new.written ≡ old.written ++ out) × Writes status old.sink_faults new.sink_faults out (replies_of talk.served)
   pub ticks : IsTrue tells.clock → Ticks (moments_of (all_turns talk)) old.moments new.moments
   pub closes : Closes tells.disk new.told status closing
   pub most : TakesMost status tells.source old.taken new.taken
   pub legal : IsTrue tells.disk → IsLegalHistory opening (all_steps talk closing)
-  pub image : IsTrue tells.disk → (tried : List Write) × (length tried ≤ 1) × IsImageOf new.told.image (log_of opening (all_steps talk closing)) tried
+  pub image : IsTrue tells.disk → IsImageAt status new.told.image (log_of opening (all_steps talk closing))
   pub from : old.faults ≤ opening.faults
   pub from_views : old.views ≤ opening.views
   pub faults : Counted opening.faults (faults_in (all_steps talk closing)) new.faults

@@ -14,7 +14,7 @@ use Rattle.bk_laws.specs.Wire.{StandsIn}
 use Rattle.bk_wire.specs.Stream.{Stream, taken}
 use Rattle.bitcaskd.specs.Counts.{Counted}
 use Rattle.bitcaskd.specs.Output.{Wrote, LeftOver}
-use Rattle.bitcaskd.specs.Run.{Telling, telling, Outside, Reads, Writes, TakesMost, most_taken, faults_in, views_in}
+use Rattle.bitcaskd.specs.Run.{Telling, telling, Outside, Reads, Writes, TakesMost, most_taken, faults_in, views_in, IsServed}
 use Rattle.bitcaskd.specs.Serving.{Site, Ticks, plain}
 use Rattle.bitcaskd.specs.Shelf.{FitsWithin}
 use Rattle.bitcaskd.specs.Store.{Holds, IsImageOf}
@@ -75,16 +75,17 @@ pub record SoFar (tells : Telling) (start now : Scene) (stream : Stream) (gather
   pub counts : CountedOver start.site now.site (steps_of served)
   pub sink : start.sink_faults ≤ now.sink_faults
 
--- what the store is left with: it can be synced only where it stands for its log
+-- what the store is left with: it stands for its log, but where it was refused
 abbrev pub EndsAt : Status → Site → List Step → Type 0
-EndsAt Done site steps = StandsAfter site steps
-EndsAt NotBuilt site steps = StandsAfter site steps
-EndsAt status site steps = LeftAfter site steps
+EndsAt Memory site steps = LeftAfter site steps
+EndsAt Disk site steps = LeftAfter site steps
+EndsAt status site steps = StandsAfter site steps
 
 -- The run ended before its last sync.
 pub record Stopped (tells : Telling) (start now : Scene) (status : Status) : Type 0 where
   pub talk : Talk
   pub said : IsTalk 0 talk
+  pub served : IsServed status talk
   pub reads : IsTrue tells.source → Reads status (drop start.taken start.whole) talk
   pub writes : IsTrue tells.sink → (out : List ℕ) × (now.written ≡ start.written ++ out) × Writes status start.sink_faults now.sink_faults out (replies_of talk.served)
   pub ticks : IsTrue tells.clock → Ticks (moments_of (all_turns talk)) start.site.moments now.site.moments
