@@ -42,7 +42,7 @@ runs : (tells : Telling) (start now : Scene) (site : Site) (status result : Stat
     → (IsTrue tells.disk → (log : List Write) × LeadTo (all_steps s.talk closing) log × IsImageAt result site.told.image log)
     → IsServed result s.talk
     → CountedOver start.site site (all_steps s.talk closing) → Closes tells.disk site.told result closing
-    → (IsTrue tells.source → Reads result (drop start.taken start.whole) s.talk)
+    → (IsTrue tells.source → Reads result (drop start.taken start.whole) (drop now.taken now.whole) s.talk)
     → ((out : List ℕ) → Writes status start.sink_faults now.sink_faults out (replies_of s.talk.served) → Writes result start.sink_faults now.sink_faults out (replies_of s.talk.served))
     → TakesMost result tells.source start.taken now.taken → site.moments ≡ now.site.moments
     → Runs tells (outside_of start) (outside_of (at_site now site)) result
@@ -55,6 +55,7 @@ runs tells start now site status result closing s listed after served counts clo
   listed = listed;
   said = s.said;
   served = served;
+  whole = s.whole;
   reads = reads;
   writes = λ t. let (out, is, wrote) = s.writes t in (out, is, writes out wrote);
   ticks = λ t. rw same (s.ticks t);
@@ -167,7 +168,7 @@ failed_run : (tells : Telling) (start now : Scene) (site : Site) (status result 
     → (IsTrue tells.disk → start.site.told.image ≡ []) → (IsTrue tells.disk → StandsAfter now.site (steps_of (all_turns s.talk)))
     → (n : ℕ) → Closes tells.disk site.told result (quiet_step n ∷ []) → Counted now.site.faults n site.faults
     → (IsTrue tells.disk → site.told.image ≡ now.site.told.image) → site.views ≡ now.site.views → site.moments ≡ now.site.moments
-    → (IsTrue tells.source → Reads result (drop start.taken start.whole) s.talk)
+    → (IsTrue tells.source → Reads result (drop start.taken start.whole) (drop now.taken now.whole) s.talk)
     → ((out : List ℕ) → Writes status start.sink_faults now.sink_faults out (replies_of s.talk.served) → Writes result start.sink_faults now.sink_faults out (replies_of s.talk.served))
     → TakesMost result tells.source start.taken now.taken → IsServed result s.talk
     → Runs tells (outside_of start) (outside_of (at_site now site)) result
@@ -259,6 +260,7 @@ from_before tells told faults views old new status same later more r = record {
   listed = λ t. ap (λ (d : Told). d.image) (sym (same t)) ∙ r.listed t;
   said = r.said;
   served = r.served;
+  whole = r.whole;
   reads = r.reads;
   writes = r.writes;
   ticks = r.ticks;

@@ -28,7 +28,7 @@ use Rattle.bitcaskd.specs.declared.refusals.Refusal.{Refusal}
 use Rattle.bitcaskd.specs.declared.refusals.Refusal.TheVariants.{Memory as refused_memory, Disk as refused_disk}
 use Rattle.bitcaskd.specs.Counts.{Counted}
 use Rattle.bitcaskd.specs.Output.{Wrote}
-use Rattle.bitcaskd.specs.Run.{Telling, telling, Reads, Writes, WrittenPart, TakesMost, most_taken, faults_in, views_in, IsServed}
+use Rattle.bitcaskd.specs.Run.{Telling, telling, Reads, Writes, WrittenPart, TakesMost, most_taken, faults_in, views_in, IsServed, ReadsAll}
 use Rattle.bitcaskd.specs.Serving.{Site, Ticks, plain, Leads, Answered, Refused}
 use Rattle.bitcaskd.specs.Store.{Holds}
 use Rattle.bitcaskd.specs.Talking.{Scene, LeadTo, StandsAfter, LeftAfter, CountedOver, SoFar, status_of, EndsAt, Stopped, MovesOut, FailsOut, WritesSome, Flushed, Inlet, TakesPiece, Gives, Asks, Turns, after_input, StopsAtBad, work_left, scene_of}
@@ -118,6 +118,7 @@ goes_on tells start old site before after gathered more served request so stands
     let turn = turn_of request a.served.now a.served.step (a.reply ∷ []) in
     record {
       each = AllByRecursion-snoc (IsTurn 0) served turn so.each (record { fits = stands.fits; serves = a.served.serves });
+      whole = so.whole;
       read = λ t. reads_on (drop start.taken start.whole) (requests_of served) before.rest (request_text request) after.rest (drop old.taken old.whole) (so.read t) stands.whole
           ∙ ap (λ (q : List ℕ). (q ++ after.rest) ++ drop old.taken old.whole) (sym (flat_map-snoc (λ (t : Turn). request_text t.request) served turn));
       taken = λ t. so.taken t ∙ ap (λ n. start.taken + n) same;
@@ -147,6 +148,7 @@ pub moves_out : (tells : Telling) (start now : Scene) (stream : Stream) (gathere
     → SoFar tells start (with_sink now written faults) stream left served
 moves_out tells start now stream gathered left written faults served so moved later = record {
   each = so.each;
+  whole = so.whole;
   read = so.read;
   taken = so.taken;
   made = λ t. let (out, was, made) = so.made t in let (part, is, split) = moved t in (
@@ -163,9 +165,11 @@ moves_out tells start now stream gathered left written faults served so moved la
 -- One more piece of the input was taken.
 pub takes_on : (tells : Telling) (start now : Scene) (old new : Inlet) (gathered : List ℕ) (served : List Turn) (piece : List ℕ)
     → SoFar tells start now old.stream gathered served → now.whole ≡ old.whole → now.taken ≡ old.taken → TakesPiece tells.source old new piece
+    → (IsTrue tells.source → new.whole ≡ old.whole)
     → SoFar tells start (with_source now new.whole new.taken) new.stream gathered served
-takes_on tells start now old new gathered served piece so whole taken_is took = record {
+takes_on tells start now old new gathered served piece so whole taken_is took same = record {
   each = so.each;
+  whole = λ t. same t ∙ sym whole ∙ so.whole t;
   read = λ t. so.read t ∙ ap (λ (l : List ℕ). (requests_of served ++ old.stream.rest) ++ l)
       (ap (λ (w : List ℕ). drop now.taken w) whole ∙ ap (λ (n : ℕ). drop n old.whole) taken_is ∙ took.bytes t)
       ∙ sym (append_assoc (requests_of served ++ old.stream.rest) piece (drop new.taken new.whole))
@@ -241,12 +245,14 @@ writes_whole Door before now out replies e = inl e
 -- The run ends with all replies written, by a status whose part on the input holds.
 pub ends : (tells : Telling) (start now : Scene) (stream : Stream) (whole : List ℕ) (took : ℕ) (served : List Turn) (status : Status)
     → SoFar tells start now stream [] served
-    → (IsTrue tells.source → Reads status (drop start.taken start.whole) (whole_talk served))
+    → (IsTrue tells.source → whole ≡ now.whole)
+    → (IsTrue tells.source → Reads status (drop start.taken start.whole) (drop took whole) (whole_talk served))
     → TakesMost status tells.source start.taken took → Stopped tells start (with_source now whole took) status
-ends tells start now stream whole took served status so reads most = record {
+ends tells start now stream whole took served status so same reads most = record {
   talk = whole_talk served;
   said = is_whole served so.each;
   served = all_served status served;
+  whole = λ t. same t ∙ so.whole t;
   reads = reads;
   writes = λ t. let (out, was, made) = so.made t in
       (out, was, writes_whole status start.sink_faults now.sink_faults out (replies_of served) (sym (append-nil out) ∙ made));
@@ -276,6 +282,7 @@ sink_ends tells start now stream gathered written faults served so failed = reco
   talk = whole_talk served;
   said = is_whole served so.each;
   served = refl;
+  whole = so.whole;
   reads = some_left tells start now stream gathered served so;
   writes = λ t. let (out, was, made) = so.made t in let (part, rest, is, split) = failed.0 t in (
     out ++ part,
@@ -314,6 +321,7 @@ refused_ends tells start old site before after gathered written faults served re
       talk = record { served = served; cut = turn ∷ [] };
       said = record { each = so.each; last = (record { fits = stands.fits; silent = refl; made = r.made }, tt); one = omega arith };
       served = tt;
+      whole = so.whole;
       reads = λ t. (
         after.rest ++ drop old.taken old.whole,
         reads_on (drop start.taken start.whole) (requests_of served) before.rest (request_text request) after.rest (drop old.taken old.whole) (so.read t) stands.whole
@@ -337,7 +345,7 @@ refused_ends tells start old site before after gathered written faults served re
     }
 
 by_disk : (tells : Telling) (start now : Scene) → Stopped tells start now Memory → Stopped tells start now Disk
-by_disk tells start now s = record { talk = s.talk; said = s.said; served = tt; reads = s.reads; writes = s.writes; ticks = s.ticks; most = s.most; ends = s.ends; counts = s.counts }
+by_disk tells start now s = record { talk = s.talk; said = s.said; served = tt; whole = s.whole; reads = s.reads; writes = s.writes; ticks = s.ticks; most = s.most; ends = s.ends; counts = s.counts }
 
 pub refusal_ends : (refusal : Refusal) (tells : Telling) (start old : Scene) (site : Site) (before after : Stream) (gathered written : List ℕ) (faults : ℕ) (served : List Turn) (request : Request)
     → SoFar tells start old before gathered served → StandsIn before.rest request after.rest
@@ -357,6 +365,7 @@ memory_ends tells start now stream gathered written faults served so flushed = r
   talk = whole_talk served;
   said = is_whole served so.each;
   served = tt;
+  whole = so.whole;
   reads = some_left tells start now stream gathered served so;
   writes = λ t. last_written tells.sink start.written now.written gathered written start.sink_faults now.sink_faults faults (replies_of served) (so.made t) so.sink t flushed;
   ticks = λ t. subst (λ (ts : List Turn). Ticks (moments_of ts) start.site.moments now.site.moments) (sym (append-nil served)) (so.ticks t);
@@ -370,7 +379,7 @@ fits_a : Fits (Get (97 ∷ []))
 fits_a = record { bounds = record { some = omega arith; short = omega arith }; bytes = λ i. grind (arith, common_steps) }
 
 pub bad_left : (tells : Telling) (start now : Scene) (stream : Stream) (gathered : List ℕ) (served : List Turn) → SoFar tells start now stream gathered served
-    → IsBad stream.rest → IsTrue tells.source → Reads NotBuilt (drop start.taken start.whole) (whole_talk served)
+    → IsBad stream.rest → IsTrue tells.source → Reads NotBuilt (drop start.taken start.whole) [] (whole_talk served)
 unfolding some_left
 bad_left tells start now stream gathered served so never t =
     let (rest, read) = some_left tells start now stream gathered served so t in
@@ -383,7 +392,7 @@ bad_left tells start now stream gathered served so never t =
 -- The input ended: within a request, or behind the last one.
 pub input_left : (tells : Telling) (start now : Scene) (stream : Stream) (gathered : List ℕ) (served : List Turn) → SoFar tells start now stream gathered served
     → (IsTrue tells.source → drop now.taken now.whole ≡ []) → IsPartial stream.rest → 0 < length stream.rest
-    → IsTrue tells.source → Reads NotBuilt (drop start.taken start.whole) (whole_talk served)
+    → IsTrue tells.source → Reads NotBuilt (drop start.taken start.whole) [] (whole_talk served)
 input_left tells start now stream gathered served so none part some t = (
   stream.rest,
   so.read t ∙ ap (λ (l : List ℕ). (requests_of served ++ stream.rest) ++ l) (none t) ∙ append-nil (requests_of served ++ stream.rest)
@@ -394,11 +403,23 @@ input_left tells start now stream gathered served so none part some t = (
 
 pub all_read : (tells : Telling) (start now : Scene) (stream : Stream) (gathered : List ℕ) (served : List Turn) → SoFar tells start now stream gathered served
     → (IsTrue tells.source → drop now.taken now.whole ≡ []) → stream.rest ≡ []
-    → IsTrue tells.source → Reads Done (drop start.taken start.whole) (whole_talk served)
+    → IsTrue tells.source → Reads Done (drop start.taken start.whole) [] (whole_talk served)
 all_read tells start now stream gathered served so none empty t =
     so.read t ∙ ap (λ (l : List ℕ). (requests_of served ++ stream.rest) ++ l) (none t) ∙ append-nil (requests_of served ++ stream.rest)
     ∙ ap (λ (l : List ℕ). requests_of served ++ l) empty ∙ append-nil (requests_of served)
     ∙ ap (λ (ts : List Turn). requests_of ts) (sym (append-nil served))
+
+-- The run stops with less than a request behind those that were served.
+partial_left : (tells : Telling) (start now : Scene) (stream : Stream) (gathered whole : List ℕ) (took : ℕ) (served : List Turn) → SoFar tells start now stream gathered served
+    → (IsTrue tells.source → whole ≡ now.whole) → (IsTrue tells.source → took ≡ now.taken) → IsPartial stream.rest
+    → IsTrue tells.source → ReadsAll (drop start.taken start.whole) (drop took whole) (whole_talk served)
+partial_left tells start now stream gathered whole took served so same unmoved part t = (
+  stream.rest,
+  so.read t
+      ∙ ap (λ (l : List ℕ). (requests_of served ++ stream.rest) ++ l) (sym (ap (λ (n : ℕ). drop n whole) (unmoved t) ∙ ap (λ (w : List ℕ). drop now.taken w) (same t)))
+      ∙ ap (λ (ts : List Turn). (requests_of ts ++ stream.rest) ++ drop took whole) (sym (append-nil served)),
+  part,
+)
 
 -- what a read took of the source
 pub took_piece : (whole now_whole into : List ℕ) (before now n : ℕ) → Takes whole before now n into → now_whole ≡ whole → drop before whole ≡ take n into ++ drop now now_whole
@@ -457,7 +478,7 @@ pub stops_at_bad : (dt st kt ct : Bool) (site : Site) (whole : List ℕ) (took :
 stops_at_bad dt st kt ct site whole took written faults gathered later faults_later stream after left never wrote rises =
     λ start served so.
     let so' = emptied (telling dt st kt ct) start site whole took written faults gathered later faults_later stream served so wrote rises in
-    ends (telling dt st kt ct) start (scene_of site whole took later faults_later) stream whole took served NotBuilt so'
+    ends (telling dt st kt ct) start (scene_of site whole took later faults_later) stream whole took served NotBuilt so' (λ t. refl)
     (bad_left (telling dt st kt ct) start (scene_of site whole took later faults_later) stream [] served so' never) tt
 
 pub reads_more : (i : Input) (last : Bool) (dt st kt ct : Bool) (site : Site) (old new : Inlet) (written : List ℕ) (faults : ℕ) (gathered later : List ℕ) (faults_later : ℕ)
@@ -468,36 +489,36 @@ reads_more Taken last dt st kt ct site old new written faults gathered later fau
     λ start served so. (
       served,
       takes_on (telling dt st kt ct) start (scene_of site old.whole old.taken later faults_later) old new [] served piece
-          (emptied (telling dt st kt ct) start site old.whole old.taken written faults gathered later faults_later old.stream served so wrote rises) refl refl took,
+          (emptied (telling dt st kt ct) start site old.whole old.taken written faults gathered later faults_later old.stream served so wrote rises) refl refl took same,
     )
 reads_more Ended true dt st kt ct site old new written faults gathered later faults_later part wrote rises (still, below, none) empty some same =
     λ start served so.
     let so' = emptied (telling dt st kt ct) start site old.whole old.taken written faults gathered later faults_later old.stream served so wrote rises in
-    ends (telling dt st kt ct) start (scene_of site old.whole old.taken later faults_later) old.stream new.whole new.taken served Done so'
+    ends (telling dt st kt ct) start (scene_of site old.whole old.taken later faults_later) old.stream new.whole new.taken served Done so' same
     (all_read (telling dt st kt ct) start (scene_of site old.whole old.taken later faults_later) old.stream [] served so' (λ t. (none t).0) (ap (λ s. s.rest) (sym still) ∙ empty refl))
     (λ t. omega (arith, so.taken t, below, (none t).1))
 reads_more Ended false dt st kt ct site old new written faults gathered later faults_later part wrote rises (still, below, none) empty some same =
     λ start served so.
     let so' = emptied (telling dt st kt ct) start site old.whole old.taken written faults gathered later faults_later old.stream served so wrote rises in
-    ends (telling dt st kt ct) start (scene_of site old.whole old.taken later faults_later) old.stream new.whole new.taken served NotBuilt so'
+    ends (telling dt st kt ct) start (scene_of site old.whole old.taken later faults_later) old.stream new.whole new.taken served NotBuilt so' same
     (input_left (telling dt st kt ct) start (scene_of site old.whole old.taken later faults_later) old.stream [] served so' (λ t. (none t).0) part
     (subst (λ (s : Stream). 0 < length s.rest) still (some refl)))
     tt
 reads_more took_most last dt st kt ct site old new written faults gathered later faults_later part wrote rises (still, all, unmoved) empty some same =
     λ start served so.
     let so' = emptied (telling dt st kt ct) start site old.whole old.taken written faults gathered later faults_later old.stream served so wrote rises in
-    ends (telling dt st kt ct) start (scene_of site old.whole old.taken later faults_later) old.stream new.whole new.taken served Long so'
-    (some_left (telling dt st kt ct) start (scene_of site old.whole old.taken later faults_later) old.stream [] served so')
+    ends (telling dt st kt ct) start (scene_of site old.whole old.taken later faults_later) old.stream new.whole new.taken served Long so' same
+    (partial_left (telling dt st kt ct) start (scene_of site old.whole old.taken later faults_later) old.stream [] new.whole new.taken served so' same unmoved part)
     (λ t. omega (arith, so.taken t, all, unmoved t))
-reads_more Failed last dt st kt ct site old new written faults gathered later faults_later part wrote rises (still, rose) empty some same =
+reads_more Failed last dt st kt ct site old new written faults gathered later faults_later part wrote rises (still, rose, unmoved) empty some same =
     λ start served so.
     let so' = emptied (telling dt st kt ct) start site old.whole old.taken written faults gathered later faults_later old.stream served so wrote rises in
-    ends (telling dt st kt ct) start (scene_of site old.whole old.taken later faults_later) old.stream new.whole new.taken served Source so'
-    (some_left (telling dt st kt ct) start (scene_of site old.whole old.taken later faults_later) old.stream [] served so') tt
+    ends (telling dt st kt ct) start (scene_of site old.whole old.taken later faults_later) old.stream new.whole new.taken served Source so' same
+    (partial_left (telling dt st kt ct) start (scene_of site old.whole old.taken later faults_later) old.stream [] new.whole new.taken served so' same unmoved part) tt
 reads_more no_memory last dt st kt ct site old new written faults gathered later faults_later part wrote rises still empty some same =
     λ start served so.
     let so' = emptied (telling dt st kt ct) start site old.whole old.taken written faults gathered later faults_later old.stream served so wrote rises in
-    ends (telling dt st kt ct) start (scene_of site old.whole old.taken later faults_later) old.stream new.whole new.taken served Memory so'
+    ends (telling dt st kt ct) start (scene_of site old.whole old.taken later faults_later) old.stream new.whole new.taken served Memory so' same
     (some_left (telling dt st kt ct) start (scene_of site old.whole old.taken later faults_later) old.stream [] served so') tt
 
 -- how far a run has come before its first request
@@ -506,6 +527,7 @@ pub nothing_yet : (tells : Telling) (start : Scene) (stream : Stream)
     → SoFar tells start start stream [] []
 nothing_yet tells start stream holds empty none = record {
   each = tt;
+  whole = λ t. refl;
   read = λ t. ap (λ (l : List ℕ). l ++ drop start.taken start.whole) (sym empty);
   taken = λ t. omega (arith, none);
   made = λ t. ([], sym (append-nil start.written), refl);

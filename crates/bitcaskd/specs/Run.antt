@@ -11,7 +11,7 @@ use Rattle.bk_disk.specs.Causes.{Rose}
 use Rattle.bk_disk.specs.Stops.{IsSynced}
 use Rattle.bk_disk.specs.Told.{Image, Told}
 use Rattle.bk_laws.specs.History.{IsLegalHistory, log_of}
-use Rattle.bk_laws.specs.Wire.{NoneStands}
+use Rattle.bk_laws.specs.Wire.{IsPartial, NoneStands}
 use Rattle.bk_laws.specs.Session.{Talk, IsTalk, all_turns, requests_of, replies_of, steps_of, moments_of}
 use Rattle.bitcaskd.specs.Counts.{Counted}
 use Rattle.bitcaskd.specs.Serving.{Ticks}
@@ -56,13 +56,20 @@ telling disk source sink clock = record { disk = disk; source = source; sink = s
 abbrev pub most_taken : ℕ
 most_taken = 1099511627776
 
--- Done: the input is exactly the requests. NotBuilt: behind them it isn't empty, and no request
--- stands there. Otherwise it begins with them.
-abbrev pub Reads : Status → List ℕ → Talk → Type 0
-Reads Done input talk = input ≡ requests_of (all_turns talk)
-Reads NotBuilt input talk =
+-- what was read is the requests, and behind them at most a first part of one more
+abbrev pub ReadsAll : List ℕ → List ℕ → Talk → Type 0
+ReadsAll input left talk = (part : List ℕ) × (input ≡ (requests_of (all_turns talk) ++ part) ++ left) × IsPartial part
+
+-- Of the input, `left` wasn't read. Done: the input is exactly the requests. NotBuilt: behind them it
+-- isn't empty, and no request stands there. Source and Long: each request that was read whole is among
+-- them. Otherwise the input begins with them.
+abbrev pub Reads : Status → List ℕ → List ℕ → Talk → Type 0
+Reads Done input left talk = input ≡ requests_of (all_turns talk)
+Reads NotBuilt input left talk =
     (rest : List ℕ) × (input ≡ requests_of (all_turns talk) ++ rest) × (0 < length rest) × NoneStands rest
-Reads status input talk = (rest : List ℕ) × (input ≡ requests_of (all_turns talk) ++ rest)
+Reads Source input left talk = ReadsAll input left talk
+Reads Long input left talk = ReadsAll input left talk
+Reads status input left talk = (rest : List ℕ) × (input ≡ requests_of (all_turns talk) ++ rest)
 
 -- the replies to the requests that were served, whole, or as far as a sink took them that failed
 abbrev pub WrittenPart : ℕ → ℕ → List ℕ → List ℕ → Type 0
@@ -149,7 +156,8 @@ pub record Runs (tells : Telling) (old new : Outside) (status : Status) : Type 0
   pub listed : IsTrue tells.disk → old.told.image ≡ []
   pub said : IsTalk 0 talk
   pub served : IsServed status talk
-  pub reads : IsTrue tells.source → Reads status (drop old.taken old.whole) talk
+  pub whole : IsTrue tells.source → new.whole ≡ old.whole
+  pub reads : IsTrue tells.source → Reads status (drop old.taken old.whole) (drop new.taken new.whole) talk
   pub writes : IsTrue tells.sink → (out : List ℕ) × (new.written ≡ old.written ++ out) × Writes status old.sink_faults new.sink_faults out (replies_of talk.served)
   pub ticks : IsTrue tells.clock → Ticks (moments_of (all_turns talk)) old.moments new.moments
   pub closes : Closes tells.disk new.told status closing

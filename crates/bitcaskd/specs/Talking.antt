@@ -67,6 +67,7 @@ pub record CountedOver (old new : Site) (steps : List Step) : Type 0 where
 -- requests, and what was written and gathered are their replies.
 pub record SoFar (tells : Telling) (start now : Scene) (stream : Stream) (gathered : List ℕ) (served : List Turn) : Type 0 where
   pub each : AllByRecursion (IsTurn 0) served
+  pub whole : IsTrue tells.source → now.whole ≡ start.whole
   pub read : IsTrue tells.source → drop start.taken start.whole ≡ (requests_of served ++ stream.rest) ++ drop now.taken now.whole
   pub taken : IsTrue tells.source → now.taken ≡ start.taken + taken stream
   pub made : IsTrue tells.sink → (out : List ℕ) × (now.written ≡ start.written ++ out) × (out ++ gathered ≡ replies_of served)
@@ -86,7 +87,8 @@ pub record Stopped (tells : Telling) (start now : Scene) (status : Status) : Typ
   pub talk : Talk
   pub said : IsTalk 0 talk
   pub served : IsServed status talk
-  pub reads : IsTrue tells.source → Reads status (drop start.taken start.whole) talk
+  pub whole : IsTrue tells.source → now.whole ≡ start.whole
+  pub reads : IsTrue tells.source → Reads status (drop start.taken start.whole) (drop now.taken now.whole) talk
   pub writes : IsTrue tells.sink → (out : List ℕ) × (now.written ≡ start.written ++ out) × Writes status start.sink_faults now.sink_faults out (replies_of talk.served)
   pub ticks : IsTrue tells.clock → Ticks (moments_of (all_turns talk)) start.site.moments now.site.moments
   pub most : TakesMost status tells.source start.taken now.taken
@@ -119,7 +121,7 @@ Gives Taken tells old new = (piece : List ℕ) × TakesPiece tells old new piece
 Gives Ended tells old new =
     (new.stream ≡ old.stream) × (taken old.stream < most_taken) × (IsTrue tells → (drop old.taken old.whole ≡ []) × (new.taken ≡ old.taken))
 Gives took_most tells old new = (new.stream ≡ old.stream) × (taken old.stream ≡ most_taken) × (IsTrue tells → new.taken ≡ old.taken)
-Gives Failed tells old new = (new.stream ≡ old.stream) × Rose old.faults new.faults
+Gives Failed tells old new = (new.stream ≡ old.stream) × Rose old.faults new.faults × (IsTrue tells → new.taken ≡ old.taken)
 Gives no_memory tells old new = new.stream ≡ old.stream
 
 -- a scene from what the objects show
