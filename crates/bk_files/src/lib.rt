@@ -1,5 +1,5 @@
 //! The data files of a store: they are appended to, they roll at a size, and a failed append is
-//! repaired before the next one.
+//! repaired before the next one. `Scan` gives the records of a file in order.
 #![tactic(auto)]
 
 mod catalog;
