@@ -2,7 +2,6 @@
 use Rattle.std.proofs.Common.{◌≡◌, ◌∙◌, ◌⊎◌, ℕ, ◌+◌, ◌-◌, ◌*◌, ◌^◌, ◌<◌, ◌≤◌, List, [], ◌∷◌, ◌++◌, length, take, drop, Bool, true, false, cond, unwrap_or, is_some, Option, Some, None, refl, sym, ap, subst, arith, inl, inr, append_assoc}
 use Rattle.std.proofs.lemmas.Bool.{cases_Bool, true≢false}
 use Rattle.std.proofs.lemmas.Grind.{common_steps}
-use Rattle.std.proofs.lemmas.List.Concat.{flat_map-append}
 use Rattle.std.proofs.lemmas.List.{append-nil, length-append, map-append}
 use Rattle.std.proofs.Math.Seq.{take-length, drop-append-add}
 use Rattle.bk_base.specs.declared.names.Name.{Name}
@@ -18,6 +17,7 @@ use Rattle.bk_files.specs.declared.catalog.Active.{Active}
 use Rattle.bk_files.specs.declared.catalog.Catalog.{Catalog}
 use Rattle.bk_files.specs.Catalog.{Begins, Grows, grown_of, due_of, is_due, len_of, main, with_torn}
 use Rattle.bk_files.specs.Files.{Repaired, RepairedOf, HalfRepaired, HalfRepairedOf, Rolled, HalfRolled, Settled, SettledOf, Stands}
+use Rattle.bk_files.proofs.FirstRecords.{records_of-more}
 use Rattle.bk_laws.specs.Record.{record_of, records_of}
 use Rattle.bitcaskd.specs.Shelf.{Shelf, Lies, IsKept, IsClosed, IsOpen, IsOn, IsOnOf, IsLeft, Extends, FitsWithin, active_of, closed, files, files_behind, max_file, next_name, place_for, put_on, synced, with_part}
 
@@ -303,9 +303,6 @@ rolled_open size s t u c d h due begins rolled stands =
 
 -- Appending
 
-records-snoc : (ws : List Write) (w : Write) → records_of (ws ++ w ∷ []) ≡ records_of ws ++ record_of w
-records-snoc ws w = flat_map-append record_of ws (w ∷ []) ∙ ap (λ (t : List ℕ). records_of ws ++ t) (append-nil (record_of w))
-
 lies_open : (p : Shelf) (k : ℕ) (text : List ℕ) (t u : Told) (c : Catalog) → IsOpen p t c → Appended (main c.last.0) k text t u
     → Lies p.sealed (next_name p.sealed) (records_of p.newest ++ take k text) u
 lies_open p k text t u c h appended =
@@ -317,7 +314,7 @@ pub appended_on : (p : Shelf) (w : Write) (size : ℕ) (text : List ℕ) (t u : 
 appended_on p w size text t u c d h grows long appended is stands =
     let lies = lies_open p (length text) text t u c h appended in
     let more : records_of p.newest ++ take (length text) text ≡ records_of (p.newest ++ w ∷ []) =
-    ap (λ (l : List ℕ). records_of p.newest ++ l) (take-length text ∙ is) ∙ sym (records-snoc p.newest w) in
+    ap (λ (l : List ℕ). records_of p.newest ++ l) (take-length text ∙ is) ∙ sym (records_of-more p.newest w) in
     let len : length (records_of p.newest) + size ≡ length (records_of (p.newest ++ w ∷ [])) =
     ap (λ (n : ℕ). length (records_of p.newest) + n) (long ∙ ap length (sym (take-length text))) ∙ sym (length-append (records_of p.newest) (take (length text) text)) ∙ ap length more in
     opened p.newest w (put_on w p) u d (record {

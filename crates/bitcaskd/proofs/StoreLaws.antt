@@ -19,6 +19,7 @@ use Rattle.bk_files.specs.declared.catalog.Catalog.{Catalog}
 use Rattle.bk_files.specs.Catalog.{main}
 use Rattle.bk_files.specs.Files.{HalfRepaired, Repaired, Settled, Synchronized}
 use Rattle.bk_files.specs.Files.{Stands as FilesStand}
+use Rattle.bk_record.proofs.Codec.{length-record_of}
 use Rattle.bk_laws.specs.Log.{winner, or_else, seq_after}
 use Rattle.bk_laws.proofs.LastWrites.{winner-append}
 use Rattle.bk_laws.specs.Record.{record_of, records_of, covered_of, fields_of, checksum_of, size_of}
@@ -66,10 +67,6 @@ put-split seq now key value = (
   to_be_bytes w32 (checksum_of (put_of seq now key value)) ++ (fields_of (put_of seq now key value) ++ key),
   sym (append_assoc (to_be_bytes w32 (checksum_of (put_of seq now key value))) (fields_of (put_of seq now key value) ++ key) value),
 )
-
-pub length-record_of : (w : Write) → length (record_of w) ≡ size_of w
-unfolding record_of covered_of fields_of
-length-record_of w = simp length-append (omega arith)
 
 -- the value of a put stands at the end of its record, wherever that is
 value-written : (bytes text front value : List ℕ) (at from : ℕ) → drop at bytes ≡ text → 0 < length text → text ≡ front ++ value → from + length value ≡ at + length text

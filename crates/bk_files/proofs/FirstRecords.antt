@@ -1,4 +1,4 @@
--- The records that a scan has found so far.
+-- One more record behind others, and the records that a scan has found so far.
 use Rattle.std.proofs.Common.{◌≡◌, ℕ, ◌+◌, List, [], ◌∷◌, ◌++◌, length, drop, refl, sym, ap, subst, ◌∙◌, arith, append_assoc}
 use Rattle.std.specs.List.{AllByRecursion}
 use Rattle.std.proofs.lemmas.Grind.{flat_map-append}
@@ -8,10 +8,11 @@ use Rattle.bk_laws.specs.Record.{AreRecords, IsWritable, NoRecord, RecordStands,
 use Rattle.bk_record.proofs.Codec.{length-record_of}
 use Rattle.bk_files.specs.Scan.{AreFirst}
 
-records_of-more : (ws : List Write) (w : Write) → records_of (ws ++ w ∷ []) ≡ records_of ws ++ record_of w
+-- one more record behind the others
+pub records_of-more : (ws : List Write) (w : Write) → records_of (ws ++ w ∷ []) ≡ records_of ws ++ record_of w
 records_of-more ws w = flat_map-append record_of ws (w ∷ []) ∙ ap (λ (t : List ℕ). records_of ws ++ t) (append-nil (record_of w))
 
-all_fit : (ws : List Write) (w : Write) → AllByRecursion IsWritable ws → IsWritable w → AllByRecursion IsWritable (ws ++ w ∷ [])
+pub all_fit : (ws : List Write) (w : Write) → AllByRecursion IsWritable ws → IsWritable w → AllByRecursion IsWritable (ws ++ w ∷ [])
 all_fit [] w fit is = (is, tt)
 all_fit (v ∷ ws) w fit is = (fit.0, all_fit ws w fit.1 is)
 

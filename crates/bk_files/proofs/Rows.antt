@@ -6,7 +6,6 @@ use Rattle.std.specs.Option.{IsSome, IsSomeAnd, IfSome}
 use Rattle.std.specs.List.{AllByRecursion}
 use Rattle.std.proofs.lemmas.Bool.{cases_Bool}
 use Rattle.std.proofs.lemmas.List.{append-nil, drop_all, length-append, take_all}
-use Rattle.std.proofs.lemmas.Grind.{flat_map-append}
 use Rattle.bk_base.specs.declared.names.Name.{Name}
 use Rattle.bk_base.specs.declared.rows.Row.{Row}
 use Rattle.bk_base.specs.declared.rows.RowState.{RowState}
@@ -14,6 +13,7 @@ use Rattle.bk_base.specs.declared.rows.RowState.TheVariants.{Active as active_st
 use Rattle.bk_base.specs.declared.writes.Write.{Write}
 use Rattle.bk_laws.specs.Record.{AreRecords, IsWritable, NoRecord, record_of, records_of}
 use Rattle.bk_record.proofs.Codec.{length-record_of}
+use Rattle.bk_files.proofs.FirstRecords.{all_fit, records_of-more}
 use Rattle.bk_disk.specs.Names.{same}
 use Rattle.bk_disk.specs.Told.{Front, Told, at, bytes_of, IsOurs}
 use Rattle.bk_disk.specs.Calls.{Appended, Cut, Made, Synced, fresh}
@@ -37,21 +37,17 @@ records_alone ws fit =
       ended = subst NoRecord (sym nothing) no_record_in_nothing;
     }
 
-fit_more : (ws : List Write) (w : Write) → AllByRecursion IsWritable ws → IsWritable w → AllByRecursion IsWritable (ws ++ w ∷ [])
-fit_more [] w fit more = (more, tt)
-fit_more (v ∷ vs) w fit more = (fit.0, fit_more vs w fit.1 more)
-
 all_records : (known : List ℕ) (ws : List Write) → AreRecords known ws → length (records_of ws) ≡ length known → known ≡ records_of ws
 all_records known ws are all =
     are.held ∙ ap (λ x. records_of ws ++ x) (drop_all (length (records_of ws)) known (omega (arith, all))) ∙ append-nil (records_of ws)
 
 one_more : (known : List ℕ) (ws : List Write) (w : Write) → AreRecords known ws → length (records_of ws) ≡ length known → records_of (ws ++ w ∷ []) ≡ known ++ record_of w
 one_more known ws w are all =
-    flat_map-append record_of ws (w ∷ []) ∙ ap (λ x. records_of ws ++ x) (append-nil (record_of w)) ∙ ap (λ x. x ++ record_of w) (sym (all_records known ws are all))
+    records_of-more ws w ∙ ap (λ x. x ++ record_of w) (sym (all_records known ws are all))
 
 records_more : (known : List ℕ) (ws : List Write) (w : Write) → AreRecords known ws → length (records_of ws) ≡ length known → IsWritable w → AreRecords (known ++ record_of w) (ws ++ w ∷ [])
 records_more known ws w are all fits =
-    subst (λ x. AreRecords x (ws ++ w ∷ [])) (one_more known ws w are all) (records_alone (ws ++ w ∷ []) (fit_more ws w are.fit fits))
+    subst (λ x. AreRecords x (ws ++ w ∷ [])) (one_more known ws w are all) (records_alone (ws ++ w ∷ []) (all_fit ws w are.fit fits))
 
 -- A file that a call leaves alone: it is still ours, and its bytes are the same
 
