@@ -2,7 +2,9 @@
 
 import os
 import resource
+import shutil
 import signal
+import subprocess
 import unittest
 
 from support import (
@@ -152,6 +154,27 @@ class Faults(StoreTest):
         text = self.files()[DATA_FILE]
         self.assertEqual(text[:24], record(int.from_bytes(text[4:8], "big"), 1, b"a", b"1"))
         self.assertLessEqual(len(text), 30)
+
+    def test_a_full_disk(self):
+        self.mount_small()
+        writes = [(b"%02d" % number, bytes([number]) * 10_000) for number in range(40)]
+        ended = self.pipe(b"".join(put(*write) for write in writes))
+        served = (ended.stdout or b"").count(b"\n")
+        self.assert_ended(ended, 3, b"".join(numbered(seq) for seq in range(1, served + 1)), "disk")
+        self.assertTrue(20 <= served <= 26, f"{served} records in 256 KiB")
+        # The records of the puts that were answered, and a first part of the next one at most.
+        data, size = self.folder / DATA_FILE, len(record(0, 1, *writes[0]))
+        self.assertTrue(size * served <= data.stat().st_size <= size * (served + 1))
+        os.truncate(data, size * served)
+        self.assert_holds(writes[:served])
+
+    def mount_small(self):
+        """Makes the test's folder a file system of 256 KiB, or skips the test where that can't be done."""
+        tool = shutil.which("mount")
+        small = ["-t", "tmpfs", "-o", "size=256k", "tmpfs", str(self.folder)]
+        if not tool or subprocess.run([tool, *small], capture_output=True, check=False).returncode:
+            self.skipTest("a small file system can't be mounted here: it needs mount, and the right to call it")
+        self.addCleanup(subprocess.run, ["umount", str(self.folder)], check=True)
 
     def test_a_data_file_that_was_cut_from_outside(self):
         client = self.client()
