@@ -20,7 +20,7 @@ use Rattle.bk_disk.specs.Calls.{Appended, Cut, Made, Synced, fresh}
 use Rattle.bk_disk.proofs.Files.{appended_ours, bytes_of-changed_other, cut_ours, synced_ours}
 use Rattle.bk_disk.proofs.Tables.{at-with_name_other}
 use Rattle.bk_files.specs.declared.catalog.Active.{Active}
-use Rattle.bk_files.specs.Catalog.{edited, main, new_row, sealed, with_counts, with_len}
+use Rattle.bk_files.specs.Catalog.{edited, main, new_row, sealed, with_counts, with_len, newest_edited}
 use Rattle.bk_files.specs.Rows.{AreRows, AreSealed, IsActiveRow, IsRow}
 
 -- One record more
@@ -124,10 +124,10 @@ rows_kept (Some a) last rows t u kept w =
 
 -- Edits of a row
 
-edited_last : (f : Row → Row) (low last : ℕ) (before : List Row) (r : Row) (t : Told) → AreSealed low last before t → r.id.0 ≡ last
-    → edited last f (before ++ r ∷ []) ≡ before ++ f r ∷ []
-edited_last f low last [] r t w id = grind (arith, id)
-edited_last f low last (s ∷ ss) r t w id = grind (arith, w.1, edited_last f (s.id.0 + 1) last ss r t w.3 id)
+newest_last : (f : Row → Row) (before : List Row) (r : Row) → newest_edited f (before ++ r ∷ []) ≡ before ++ f r ∷ []
+newest_last f [] r = refl
+newest_last f (s ∷ []) r = refl
+newest_last f (s ∷ x ∷ xs) r = ap (λ l. s ∷ l) (newest_last f (x ∷ xs) r)
 
 sealed_edited : (f : Row → Row) (id low high : ℕ) (rows : List Row) (t : Told) → ((r : Row) → (f r).id ≡ r.id)
     → ((n : Name) (known : List ℕ) (r : Row) → IsRow n Sealed known r t → IsRow n Sealed known (f r) t)
@@ -215,11 +215,11 @@ pub rows_grown : (a : Active) (last : ℕ) (rows : List Row) (t u : Told) (w : W
     → ((id : ℕ) → id < last → Kept (main id) t u)
     → (IsOurs (main last) t → IsOurs (main last) u) → bytes_of (main last) u.image ≡ bytes_of (main last) t.image ++ record_of w → IsWritable w
     → AreRows (Some a) last rows t
-    → AreRows (Some (record { len = a.len + length (record_of w); torn = false })) last (edited last (with_len (a.len + length (record_of w))) rows) u
+    → AreRows (Some (record { len = a.len + length (record_of w); torn = false })) last (newest_edited (with_len (a.len + length (record_of w))) rows) u
 rows_grown a last rows t u w long kept ours more fits s = (
   s.0,
   with_len (a.len + length (record_of w)) s.1,
-  ap (edited last (with_len (a.len + length (record_of w)))) s.2 ∙ edited_last (with_len (a.len + length (record_of w))) 1 last s.0 s.1 t s.3 s.4.id,
+  ap (newest_edited (with_len (a.len + length (record_of w)))) s.2 ∙ newest_last (with_len (a.len + length (record_of w))) s.0 s.1,
   sealed_still 1 last s.0 t u kept s.3,
   active_row_grown a last s.1 t u w long ours more fits s.4,
 )
@@ -229,6 +229,12 @@ rows_grown a last rows t u w long kept ours more fits s = (
 sealed_row : (n : Name) (known : List ℕ) (r : Row) (t : Told) (state : RowState) → IsRow n state known r t → IsRow n Sealed known (sealed r) t
 sealed_row n known r t state w = record { ours = w.ours; is_state = refl; len = w.len; writes = w.writes; records = w.records; total = w.total }
 
+-- a row that is sealed may be sealed again
+newest_sealed : (low high : ℕ) (rows : List Row) (t : Told) → AreSealed low high rows t → AreSealed low high (newest_edited sealed rows) t
+newest_sealed low high [] t w = tt
+newest_sealed low high (r ∷ []) t w = (w.0, w.1, sealed_row (main r.id.0) (bytes_of (main r.id.0) t.image) r t Sealed w.2, tt)
+newest_sealed low high (r ∷ s ∷ rs) t w = (w.0, w.1, w.2, newest_sealed (r.id.0 + 1) high (s ∷ rs) t w.3)
+
 sealed_more : (low last : ℕ) (before : List Row) (r : Row) (t : Told) → low ≤ last → r.id.0 ≡ last → IsRow (main r.id.0) Sealed (bytes_of (main r.id.0) t.image) r t
     → AreSealed low last before t → AreSealed low (last + 1) (before ++ r ∷ []) t
 sealed_more low last [] r t least id row w = (omega (arith, least, id), omega (arith, id), row, tt)
@@ -237,8 +243,8 @@ sealed_more low last (s ∷ ss) r t least id row w =
 
 -- all rows are of sealed files, once the active one is sealed
 pub rows_sealed : (active : Option Active) (last : ℕ) (rows : List Row) (t : Told) → IfSome active (λ a. length (bytes_of (main last) t.image) ≡ a.len)
-    → AreRows active last rows t → AreSealed 1 (last + 1) (edited last sealed rows) t
-rows_sealed None last rows t long w = sealed_edited sealed last 1 (last + 1) rows t (λ r. refl) (λ n known r h. sealed_row n known r t Sealed h) w
+    → AreRows active last rows t → AreSealed 1 (last + 1) (newest_edited sealed rows) t
+rows_sealed None last rows t long w = newest_sealed 1 (last + 1) rows t w
 rows_sealed (Some a) last rows t long w =
     let bytes = bytes_of (main last) t.image in
     let known : bytes ≡ take a.len bytes = sym (take_all a.len bytes (omega (arith, long))) in
@@ -246,7 +252,7 @@ rows_sealed (Some a) last rows t long w =
     (sealed_row (main last) (take a.len bytes) w.1 t active_state w.4.row) in
     let same_row : IsRow (main w.1.id.0) Sealed (bytes_of (main w.1.id.0) t.image) (sealed w.1) t =
     subst (λ k. IsRow (main k) Sealed (bytes_of (main k) t.image) (sealed w.1) t) (sym w.4.id) row in
-    subst (λ x. AreSealed 1 (last + 1) x t) (sym (ap (edited last sealed) w.2 ∙ edited_last sealed 1 last w.0 w.1 t w.3 w.4.id))
+    subst (λ x. AreSealed 1 (last + 1) x t) (sym (ap (newest_edited sealed) w.2 ∙ newest_last sealed w.0 w.1))
     (sealed_more 1 last w.0 (sealed w.1) t w.4.first w.4.id same_row w.3)
 
 pub rows_begun : (last : ℕ) (rows : List Row) (t u : Told) → ((id : ℕ) → id < last + 1 → Kept (main id) t u) → IsOurs (main (last + 1)) u

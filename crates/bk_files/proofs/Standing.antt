@@ -18,7 +18,7 @@ use Rattle.bk_disk.proofs.Files.{appended_ours, appended_bytes, appended_whole, 
 use Rattle.bk_disk.proofs.Tables.{at-changed, at-changed_other, at-with_name}
 use Rattle.bk_files.specs.declared.catalog.Active.{Active}
 use Rattle.bk_files.specs.declared.catalog.Catalog.{Catalog}
-use Rattle.bk_files.specs.Catalog.{Begins, Grows, due_of, edited, grown_of, is_due, len_of, main, new_row, sealed, torn_of, with_counts, with_len, with_torn}
+use Rattle.bk_files.specs.Catalog.{Begins, Grows, due_of, edited, grown_of, is_due, len_of, main, new_row, sealed, torn_of, with_counts, with_len, with_torn, newest_edited}
 use Rattle.bk_files.specs.Rows.{AreRows, AreSealed, IsRecord}
 use Rattle.bk_files.specs.Files.{IsActive, IsUnused, Stands, StandsFor}
 use Rattle.bk_files.proofs.Rows.{kept_appended, kept_cut, kept_made, kept_synced, made_at, made_front, rows_begun, rows_counted, rows_grown, rows_kept, rows_sealed, rows_still}
@@ -203,12 +203,12 @@ not_due size limit h = true≢false h
 
 stands_appended : (active : Option Active) (last limit : ℕ) (rows : List Row) (piece : List ℕ) (t u : Told) → torn_of active ≡ false
     → due_of (length piece) limit active ≡ false → IsRecord piece → Appended (main last) (length piece) piece t u → StandsFor active last rows t
-    → StandsFor (grown_of (length piece) active) last (edited last (with_len (len_of active + length piece)) rows) u
+    → StandsFor (grown_of (length piece) active) last (newest_edited (with_len (len_of active + length piece)) rows) u
 stands_appended None last limit rows piece t u whole due text b w = absurd (not_due (length piece) limit due)
 stands_appended (Some a) last limit rows piece t u whole due text b w = record {
   now = active_appended (main last) a piece t u whole b w.now;
   unused = λ id high. unused_appended (main last) (main id) (length piece) piece t u (other last id high) b (w.unused id high);
-  made = subst (λ k. AreRows (Some (record { len = a.len + length k; torn = false })) last (edited last (with_len (a.len + length k)) rows) u) (sym text.2)
+  made = subst (λ k. AreRows (Some (record { len = a.len + length k; torn = false })) last (newest_edited (with_len (a.len + length k)) rows) u) (sym text.2)
       (rows_grown a last rows t u text.0 (w.now.known whole)
       (λ id low. kept_appended (main last) (main id) (length piece) piece t u (other_back id last low) b)
       (appended_ours (main last) (main last) (length piece) piece t u b)
@@ -258,13 +258,13 @@ known_whole (Some a) last t whole w = w.known whole
 
 -- the next file is made and is the active one
 stands_begun : (active : Option Active) (last : ℕ) (rows : List Row) (t u : Told) → IsWell t → torn_of active ≡ false → Made (main (last + 1)) false t u
-    → StandsFor active last rows t → StandsFor (Some empty) (last + 1) (edited last sealed rows ++ new_row (last + 1) ∷ []) u
+    → StandsFor active last rows t → StandsFor (Some empty) (last + 1) (newest_edited sealed rows ++ new_row (last + 1) ∷ []) u
 stands_begun active last rows t u well whole b w =
     let next = active_made (main (last + 1)) t u well b (w.unused (last + 1) (omega arith)) in
     record {
       now = next;
       unused = λ id high. unused_made (main (last + 1)) (main id) t u (other (last + 1) id high) b (w.unused id (omega (arith, high)));
-      made = rows_begun last (edited last sealed rows) t u (λ id low. kept_made (main (last + 1)) (main id) t u (other_back id (last + 1) low) b) next.ours
+      made = rows_begun last (newest_edited sealed rows) t u (λ id low. kept_made (main (last + 1)) (main id) t u (other_back id (last + 1) low) b) next.ours
           (rows_sealed active last rows t (known_whole active last t whole w.now) w.made);
     }
 
@@ -345,13 +345,13 @@ after_create c n t u well name (inr b) w = stands_half_begun c.active c.last.0 c
 pub after_begin : (c d : Catalog) (n : Name) (t u : Told) → IsWell t → torn_of c.active ≡ false → n ≡ main (c.last.0 + 1) → Begins c d
     → Made n false t u → Stands c t → Stands d u
 after_begin c d n t u well whole name begun b w =
-    stands_as (Some empty) d.active (c.last.0 + 1) d.last.0 (edited c.last.0 sealed c.rows.items ++ new_row (c.last.0 + 1) ∷ []) d.rows.items u
+    stands_as (Some empty) d.active (c.last.0 + 1) d.last.0 (newest_edited sealed c.rows.items ++ new_row (c.last.0 + 1) ∷ []) d.rows.items u
     begun.active begun.last begun.rows (stands_begun c.active c.last.0 c.rows.items t u well whole (subst (λ m. Made m false t u) name b) w)
 
 pub after_append : (c d : Catalog) (n : Name) (piece : List ℕ) (t u : Told) → torn_of c.active ≡ false → is_due (length piece) c ≡ false → IsRecord piece
     → n ≡ main c.last.0 → Grows (length piece) c d → Appended n (length piece) piece t u → Stands c t → Stands d u
 after_append c d n piece t u whole due text name grown b w =
-    stands_as (grown_of (length piece) c.active) d.active c.last.0 d.last.0 (edited c.last.0 (with_len (len_of c.active + length piece)) c.rows.items) d.rows.items u
+    stands_as (grown_of (length piece) c.active) d.active c.last.0 d.last.0 (newest_edited (with_len (len_of c.active + length piece)) c.rows.items) d.rows.items u
     grown.active (ap (λ f. f.0) grown.last) grown.rows
     (stands_appended c.active c.last.0 c.max_file c.rows.items piece t u whole due text (subst (λ m. Appended m (length piece) piece t u) name b) w)
 

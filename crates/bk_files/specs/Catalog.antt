@@ -25,6 +25,12 @@ abbrev pub edited : ℕ → (Row → Row) → List Row → List Row
 edited id f [] = []
 edited id f (r ∷ rs) = cond (r.id.0 == id) (f r ∷ rs) (r ∷ edited id f rs)
 
+-- the last row, edited
+abbrev pub newest_edited : (Row → Row) → List Row → List Row
+newest_edited f [] = []
+newest_edited f (r ∷ []) = f r ∷ []
+newest_edited f (r ∷ s ∷ rs) = r ∷ newest_edited f (s ∷ rs)
+
 -- the first row of a file
 abbrev pub row_of : ℕ → List Row → Option Row
 row_of id [] = None
@@ -63,14 +69,14 @@ with_torn torn (Some a) = Some (record { len = a.len; torn = torn })
 -- a text was appended to the active file
 pub record Grows (size : ℕ) (c d : Catalog) : Type 0 where
   pub active : d.active ≡ grown_of size c.active
-  pub rows : d.rows.items ≡ edited c.last.0 (with_len (len_of c.active + size)) c.rows.items
+  pub rows : d.rows.items ≡ newest_edited (with_len (len_of c.active + size)) c.rows.items
   pub last : d.last ≡ c.last
   pub max_file : d.max_file ≡ c.max_file
 
 -- the next file is the active one, and the one before is sealed
 pub record Begins (c d : Catalog) : Type 0 where
   pub active : d.active ≡ Some (record { len = 0; torn = false })
-  pub rows : d.rows.items ≡ edited c.last.0 sealed c.rows.items ++ new_row (c.last.0 + 1) ∷ []
+  pub rows : d.rows.items ≡ newest_edited sealed c.rows.items ++ new_row (c.last.0 + 1) ∷ []
   pub last : d.last.0 ≡ c.last.0 + 1
   pub max_file : d.max_file ≡ c.max_file
 

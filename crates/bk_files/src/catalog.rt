@@ -1,7 +1,7 @@
 //! What is known of the data files: a row for each, and how far the active one goes.
 ghost use Rattle.std.specs.Prelude.{◌≡◌, ◌+◌, ◌==◌, ◌<◌, ◌≤◌, ◌++◌, ◌∷◌, [], None, Some, length, position, true, false, IfSome, OnOk, OnErr};
 ghost use Rattle.std.specs.Vec.{vec_len, vec_capacity};
-ghost use Rattle.bk_files.specs.Catalog.{Begins, Grows, Same, edited, is_due, len_of, main, new_row, row_of, sealed, with_counts, with_len, with_torn};
+ghost use Rattle.bk_files.specs.Catalog.{Begins, Grows, Same, edited, newest_edited, is_due, len_of, main, new_row, row_of, sealed, with_counts, with_len, with_torn};
 
 use bk_base::{FileId, Kind, Memory, Name, Row, RowState};
 
@@ -113,15 +113,16 @@ impl Catalog {
         self.last = id;
     }
 
-    // The row of the newest file has this length.
+    // The row of the newest file, which is the last, has this length.
     fn set_len(&mut self, len: u64)
-        ensures rows { self.new.rows.items ≡ edited self.old.last.0 (with_len len) self.old.rows.items }
+        ensures rows { self.new.rows.items ≡ newest_edited (with_len len) self.old.rows.items }
         ensures active { self.new.active ≡ self.old.active }
         ensures last { self.new.last ≡ self.old.last }
         ensures max_file { self.new.max_file ≡ self.old.max_file }
     {
-        if let Some(place) = find(&self.rows, self.last) {
-            let row = &mut self.rows[place];
+        let count = self.rows.len();
+        if count > 0 {
+            let row = &mut self.rows[count - 1];
             row.len = len;
             row.total = len;
         }
@@ -129,15 +130,16 @@ impl Catalog {
 
     // The row of the newest file is sealed.
     fn seal(&mut self)
-        ensures rows { self.new.rows.items ≡ edited self.old.last.0 sealed self.old.rows.items }
+        ensures rows { self.new.rows.items ≡ newest_edited sealed self.old.rows.items }
         ensures room { (vec_len self.new.rows ≡ vec_len self.old.rows)
             × (vec_capacity self.new.rows ≡ vec_capacity self.old.rows) }
         ensures active { self.new.active ≡ self.old.active }
         ensures last { self.new.last ≡ self.old.last }
         ensures max_file { self.new.max_file ≡ self.old.max_file }
     {
-        if let Some(place) = find(&self.rows, self.last) {
-            self.rows[place].state = RowState::Sealed;
+        let count = self.rows.len();
+        if count > 0 {
+            self.rows[count - 1].state = RowState::Sealed;
         }
     }
 
