@@ -260,8 +260,8 @@ impl<D: Disk> Files<D> {
 
     /// Sets the two counts of a file's row.
     pub fn count(&mut self, file: FileId, live: u64, refs: u64)
-        requires { IsTrue D.tells → Stands self.old.catalog (D.told self.old.disk) }
-        ensures stands { IsTrue D.tells → Stands self.new.catalog (D.told self.new.disk) }
+        ensures stands { IsTrue D.tells → Stands self.old.catalog (D.told self.old.disk)
+            → Stands self.new.catalog (D.told self.new.disk) }
         ensures disk { self.new.disk ≡ self.old.disk }
         ensures rows { self.new.catalog.rows.items
             ≡ edited file.0 (with_counts live refs) self.old.catalog.rows.items }
