@@ -12,7 +12,7 @@ use Rattle.bk_base.specs.declared.writes.Write.{Write}
 use Rattle.bk_disk.specs.Causes.{Rose}
 use Rattle.bk_disk.specs.Told.{Image, Told}
 use Rattle.bk_laws.specs.History.{State}
-use Rattle.bk_laws.specs.Session.{all_turns, steps_of, replies_of}
+use Rattle.bk_laws.specs.Session.{all_exchanges, steps_of, replies_of}
 use Rattle.bitcaskd.specs.Closing.{ClosesBy, IsSyncedAt}
 use Rattle.bitcaskd.specs.Counts.{Counted}
 use Rattle.bitcaskd.specs.Run.{Telling, Outside, IsBuilt, Reads, Writes, Closes, TakesMost, all_steps, Runs, IsImageAt, IsServed}
@@ -21,14 +21,14 @@ use Rattle.bitcaskd.specs.Store.{Stands, IsImageOf}
 use Rattle.bitcaskd.specs.Talking.{Scene, outside_of, LeadTo, StandsAfter, LeftAfter, CountedOver, EndsAt, Stopped}
 use Rattle.bitcaskd.specs.Shelf.{filed, files}
 use Rattle.bitcaskd.proofs.StoreLaws.{exact_image}
-use Rattle.bitcaskd.proofs.ServingLaws.{no_glance, step_of}
+use Rattle.bitcaskd.proofs.ServingLaws.{no_snapshot, step_of}
 use Rattle.bitcaskd.proofs.TalkingLaws.{at_site, leads_on, counts_on}
 
 opening_of : Scene → Opening
 opening_of start = record {
   log = [];
   folds = [];
-  glance = no_glance;
+  snapshot = no_snapshot;
   settings = record { dead_bytes = 0; max_file = 67108864; ttl = 0; dead_percent = 0 };
   faults = start.site.faults;
   views = start.site.views;
@@ -111,17 +111,17 @@ image_at Door site steps ends = exact_after Door site steps ends
 
 -- a run that no sync closes
 unsynced : (tells : Telling) (start now : Scene) (site : Site) (status : Status) (s : Stopped tells start now status)
-    → (IsTrue tells.disk → start.site.told.image ≡ []) → (IsTrue tells.disk → EndsAt status now.site (steps_of (all_turns s.talk)))
+    → (IsTrue tells.disk → start.site.told.image ≡ []) → (IsTrue tells.disk → EndsAt status now.site (steps_of (all_exchanges s.talk)))
     → Closes tells.disk site.told status []
     → (IsTrue tells.disk → site.told.image ≡ now.site.told.image) → site.faults ≡ now.site.faults → site.views ≡ now.site.views → site.moments ≡ now.site.moments
     → TakesMost status tells.source start.taken now.taken
     → Runs tells (outside_of start) (outside_of (at_site now site)) status
 unsynced tells start now site status s listed left closes image faults views moments most =
     runs tells start now site status status [] s listed
-    (λ t. let (log, leads, held) = image_at status now.site (steps_of (all_turns s.talk)) (left t) in
-    (log, subst (λ (steps : List Step). LeadTo steps log) (sym (append-nil (steps_of (all_turns s.talk)))) leads, subst (λ (i : Image). IsImageAt status i log) (sym (image t)) held))
+    (λ t. let (log, leads, held) = image_at status now.site (steps_of (all_exchanges s.talk)) (left t) in
+    (log, subst (λ (steps : List Step). LeadTo steps log) (sym (append-nil (steps_of (all_exchanges s.talk)))) leads, subst (λ (i : Image). IsImageAt status i log) (sym (image t)) held))
     s.served
-    (subst (λ (steps : List Step). CountedOver start.site site steps) (sym (append-nil (steps_of (all_turns s.talk))))
+    (subst (λ (steps : List Step). CountedOver start.site site steps) (sym (append-nil (steps_of (all_exchanges s.talk))))
     (record { faults = rw faults s.counts.faults; views = rw views s.counts.views }))
     closes s.reads (λ out w. w) most moments
 
@@ -146,7 +146,7 @@ risen before now later rose = elim (cases_lt before now) [
 
 -- the run after a good sync
 synced_run : (tells : Telling) (start now : Scene) (site : Site) (status : Status) (s : Stopped tells start now status)
-    → (IsTrue tells.disk → start.site.told.image ≡ []) → (IsTrue tells.disk → StandsAfter now.site (steps_of (all_turns s.talk)))
+    → (IsTrue tells.disk → start.site.told.image ≡ []) → (IsTrue tells.disk → StandsAfter now.site (steps_of (all_exchanges s.talk)))
     → ((n : ℕ) → Closes tells.disk site.told status (sync_step now.site n ∷ []))
     → (IsTrue tells.disk → site.told.image ≡ now.site.told.image) → now.site.faults ≤ site.faults → site.views ≡ now.site.views → site.moments ≡ now.site.moments
     → TakesMost status tells.source start.taken now.taken
@@ -156,16 +156,16 @@ synced_run tells start now site status s listed stands closes image later views 
     runs tells start now site status status (sync_step now.site (site.faults - now.site.faults) ∷ []) s listed
     (λ t. let (log, leads, holds) = stands t in (
       log,
-      leads_on (steps_of (all_turns s.talk)) log (sync_step now.site (site.faults - now.site.faults)) log leads (record { legal = holds.last; state = refl }),
+      leads_on (steps_of (all_exchanges s.talk)) log (sync_step now.site (site.faults - now.site.faults)) log leads (record { legal = holds.last; state = refl }),
       exact_at status site.told.image log (image t ∙ exact_image now.site.told now.site.catalog now.site.index log holds),
     ))
     s.served
-    (with_step start.site now.site site (steps_of (all_turns s.talk)) (sync_step now.site (site.faults - now.site.faults)) s.counts (inl (omega arith)) views refl)
+    (with_step start.site now.site site (steps_of (all_exchanges s.talk)) (sync_step now.site (site.faults - now.site.faults)) s.counts (inl (omega arith)) views refl)
     (closes (site.faults - now.site.faults)) s.reads (λ out w. w) most moments
 
 -- the run after a sync that failed
 failed_run : (tells : Telling) (start now : Scene) (site : Site) (status result : Status) (s : Stopped tells start now status)
-    → (IsTrue tells.disk → start.site.told.image ≡ []) → (IsTrue tells.disk → StandsAfter now.site (steps_of (all_turns s.talk)))
+    → (IsTrue tells.disk → start.site.told.image ≡ []) → (IsTrue tells.disk → StandsAfter now.site (steps_of (all_exchanges s.talk)))
     → (n : ℕ) → Closes tells.disk site.told result (quiet_step n ∷ []) → Counted now.site.faults n site.faults
     → (IsTrue tells.disk → site.told.image ≡ now.site.told.image) → site.views ≡ now.site.views → site.moments ≡ now.site.moments
     → (IsTrue tells.source → Reads result (drop start.taken start.whole) (drop now.taken now.whole) s.talk)
@@ -177,11 +177,11 @@ failed_run tells start now site status result s listed stands n closes counted i
     runs tells start now site status result (quiet_step n ∷ []) s listed
     (λ t. let (log, leads, holds) = stands t in (
       log,
-      leads_on (steps_of (all_turns s.talk)) log (quiet_step n) log leads (record { legal = tt; state = refl }),
+      leads_on (steps_of (all_exchanges s.talk)) log (quiet_step n) log leads (record { legal = tt; state = refl }),
       exact_at result site.told.image log (image t ∙ exact_image now.site.told now.site.catalog now.site.index log holds),
     ))
     served
-    (with_step start.site now.site site (steps_of (all_turns s.talk)) (quiet_step n) s.counts counted views refl)
+    (with_step start.site now.site site (steps_of (all_exchanges s.talk)) (quiet_step n) s.counts counted views refl)
     closes reads writes most moments
 
 -- From the end of the talk to the end of the run.
@@ -318,6 +318,6 @@ was_sink tells status result t before now closes is = go (same_or_disk tells sta
 pub stood : (tells : Telling) (start now : Scene) (status : Status) → Stopped tells start now status → IsSyncedAt status → IsTrue tells.disk → Stands now.site.told now.site.catalog now.site.index
 stood tells start now status s is t = go is (s.ends t)
   where
-    go : IsSyncedAt status → EndsAt status now.site (steps_of (all_turns s.talk)) → Stands now.site.told now.site.catalog now.site.index
-    go (inl e) ends = let (log, leads, holds) = subst (λ (st : Status). EndsAt st now.site (steps_of (all_turns s.talk))) e ends in (log, holds)
-    go (inr e) ends = let (log, leads, holds) = subst (λ (st : Status). EndsAt st now.site (steps_of (all_turns s.talk))) e ends in (log, holds)
+    go : IsSyncedAt status → EndsAt status now.site (steps_of (all_exchanges s.talk)) → Stands now.site.told now.site.catalog now.site.index
+    go (inl e) ends = let (log, leads, holds) = subst (λ (st : Status). EndsAt st now.site (steps_of (all_exchanges s.talk))) e ends in (log, holds)
+    go (inr e) ends = let (log, leads, holds) = subst (λ (st : Status). EndsAt st now.site (steps_of (all_exchanges s.talk))) e ends in (log, holds)

@@ -7,7 +7,7 @@ use Rattle.bk_base.specs.declared.calls.Call.TheVariants.{Get as get_call, Put a
 use Rattle.bk_base.specs.declared.calls.Answer.{Answer}
 use Rattle.bk_base.specs.declared.calls.Answer.TheVariants.{Nothing, Found, Numbered as numbered_answer, Done}
 use Rattle.bk_base.specs.declared.calls.Entry.{Entry}
-use Rattle.bk_base.specs.declared.histories.Glance.{Glance}
+use Rattle.bk_base.specs.declared.histories.Snapshot.{Snapshot}
 use Rattle.bk_base.specs.declared.histories.Step.{Step}
 use Rattle.bk_base.specs.declared.requests.Request.{Request}
 use Rattle.bk_base.specs.declared.requests.Request.TheVariants.{Get, Put}
@@ -26,12 +26,12 @@ use Rattle.bitcaskd.specs.Shelf.{FitsWithin}
 use Rattle.bitcaskd.proofs.ShelfLaws.{fits_more}
 use Rattle.bitcaskd.proofs.StoreLaws.{image_of}
 
--- the first path keeps no rows and no merges: its glances are empty
-pub no_glance : Glance
-no_glance = record { rows = []; written = []; job = None; last_file = record { 0 = 0 } }
+-- the first path keeps no rows and no merges: its snapshots are empty
+pub no_snapshot : Snapshot
+no_snapshot = record { rows = []; written = []; job = None; last_file = record { 0 = 0 } }
 
 abbrev pub step_of : Entry → ℕ → ℕ → Step
-step_of entry faults views = record { entry = entry; faults = faults; views = views; outs = 0; at = None; glance = no_glance; clean = false }
+step_of entry faults views = record { entry = entry; faults = faults; views = views; outs = 0; at = None; snapshot = no_snapshot; clean = false }
 
 abbrev pub answer_of : Option (List ℕ) → Answer
 answer_of None = Nothing

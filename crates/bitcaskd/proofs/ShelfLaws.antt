@@ -8,7 +8,7 @@ use Rattle.bk_base.specs.declared.names.Name.{Name}
 use Rattle.bk_base.specs.declared.writes.Write.{Write}
 use Rattle.bk_disk.specs.Names.{same}
 use Rattle.bk_disk.specs.Told.{Table, Image, Told, at, bytes_of, changed, with_name, IsAbsent}
-use Rattle.bk_disk.specs.Calls.{Appended, Synced, Made, Cut, all_safe, fresh, handed_more}
+use Rattle.bk_disk.specs.Calls.{Appended, Synced, Made, Cut, all_synced, fresh, pending_more}
 use Rattle.bk_disk.specs.Stops.{front_of}
 use Rattle.bk_disk.proofs.Names.{same_eq, same_refl}
 use Rattle.bk_disk.proofs.Files.{there-changed, bytes_of-changed, bytes_of-changed_other}
@@ -49,10 +49,10 @@ lies_bytes s n b t h = ap (λ i. bytes_of n i) h.image ∙ ap (λ (o : Option (L
 lies_appended : (s : Image) (n : Name) (b : List ℕ) (k : ℕ) (piece : List ℕ) (t u : Told) → Lies s n b t → Appended n k piece t u → Lies s n (b ++ take k piece) u
 lies_appended s n b k piece t u h a = record {
   image = a.image ∙ ap (λ i. changed n (λ bytes. bytes ++ take k piece) i) h.image ∙ changed-behind n (λ bytes. bytes ++ take k piece) s b h.apart;
-  front = handed_more (length (bytes_of n t.image ++ take k piece)) piece h.front;
+  front = pending_more (length (bytes_of n t.image ++ take k piece)) piece h.front;
   fronts = a.fronts
-      ∙ ap (λ f. changed n (handed_more (length (bytes_of n t.image ++ take k piece)) piece) f) h.fronts
-      ∙ changed-behind n (handed_more (length (bytes_of n t.image ++ take k piece)) piece) (synced s) h.front (at-synced n s ∙ h.apart);
+      ∙ ap (λ f. changed n (pending_more (length (bytes_of n t.image ++ take k piece)) piece) f) h.fronts
+      ∙ changed-behind n (pending_more (length (bytes_of n t.image ++ take k piece)) piece) (synced s) h.front (at-synced n s ∙ h.apart);
   ours = h.ours;
   apart = h.apart;
 }
@@ -61,10 +61,10 @@ lies_synced : (s : Image) (n : Name) (b : List ℕ) (t u : Told) → Lies s n b 
 lies_synced s n b t u h a = (
   a.image,
   a.fronts
-      ∙ ap (λ f. changed n (all_safe (bytes_of n t.image)) f) h.fronts
-      ∙ changed-behind n (all_safe (bytes_of n t.image)) (synced s) h.front (at-synced n s ∙ h.apart)
-      ∙ ap (λ (bytes : List ℕ). synced s ++ (n, all_safe bytes h.front) ∷ []) (lies_bytes s n b t h)
-      ∙ ap (λ (lent : Bool). synced s ++ (n, record { safe = b; reach = length b; handed = []; lent = lent }) ∷ []) h.ours
+      ∙ ap (λ f. changed n (all_synced (bytes_of n t.image)) f) h.fronts
+      ∙ changed-behind n (all_synced (bytes_of n t.image)) (synced s) h.front (at-synced n s ∙ h.apart)
+      ∙ ap (λ (bytes : List ℕ). synced s ++ (n, all_synced bytes h.front) ∷ []) (lies_bytes s n b t h)
+      ∙ ap (λ (lent : Bool). synced s ++ (n, record { synced = b; longest = length b; pending = []; lent = lent }) ∷ []) h.ours
       ∙ sym (map-append (λ (e : Name × List ℕ). (e.0, front_of e.1)) s ((n, b) ∷ []))
       ∙ ap synced (sym (a.image ∙ h.image)),
 )

@@ -15,7 +15,7 @@ use Rattle.bk_base.specs.declared.writes.Write.{Write}
 use Rattle.bk_disk.specs.Causes.{Rose, most}
 use Rattle.bk_disk.specs.Streams.{Takes, first_moment, later_moments}
 use Rattle.bk_laws.specs.History.{State, IsReply, IsLegal, after, state_of, entries}
-use Rattle.bk_laws.specs.Session.{Turn, IsTurn, Talk, IsTalk, all_turns, requests_of, replies_of, steps_of, moments_of}
+use Rattle.bk_laws.specs.Session.{Exchange, IsExchange, Transcript, IsTranscript, all_exchanges, requests_of, replies_of, steps_of, moments_of}
 use Rattle.bk_laws.specs.Wire.{Fits, request_text, reply_text, StandsIn, IsBad, IsPartial}
 use Rattle.std.proofs.Math.Seq.{drop-drop}
 use Rattle.std.proofs.lemmas.List.{take-append-drop}
@@ -106,44 +106,44 @@ reads_on : (input all rest text more unread : List ℕ) → input ≡ (all ++ re
 reads_on input all rest text more unread read stands =
     read ∙ ap (λ (r : List ℕ). (all ++ r) ++ unread) stands ∙ ap (λ (l : List ℕ). l ++ unread) (sym (append_assoc all text more))
 
-abbrev pub turn_of : Request → Moment → Step → List Reply → Turn
+abbrev pub turn_of : Request → Moment → Step → List Reply → Exchange
 turn_of request now step replies = record { request = request; now = now; steps = step ∷ []; replies = replies }
 
 -- One more request was served, and its reply gathered.
-pub goes_on : (tells : Telling) (start old : Scene) (site : Site) (before after : Stream) (gathered more : List ℕ) (served : List Turn) (request : Request)
+pub goes_on : (tells : Telling) (start old : Scene) (site : Site) (before after : Stream) (gathered more : List ℕ) (served : List Exchange) (request : Request)
     → SoFar tells start old before gathered served → StandsIn before.rest request after.rest → taken before ≡ taken after
     → (a : Answered tells.disk tells.clock request old.site site gathered more)
     → SoFar tells start (at_site old site) after more (served ++ turn_of request a.served.now a.served.step (a.reply ∷ []) ∷ [])
 goes_on tells start old site before after gathered more served request so stands same a =
     let turn = turn_of request a.served.now a.served.step (a.reply ∷ []) in
     record {
-      each = AllByRecursion-snoc (IsTurn 0) served turn so.each (record { fits = stands.fits; serves = a.served.serves });
+      each = AllByRecursion-snoc (IsExchange 0) served turn so.each (record { fits = stands.fits; serves = a.served.serves });
       whole = so.whole;
       read = λ t. reads_on (drop start.taken start.whole) (requests_of served) before.rest (request_text request) after.rest (drop old.taken old.whole) (so.read t) stands.whole
-          ∙ ap (λ (q : List ℕ). (q ++ after.rest) ++ drop old.taken old.whole) (sym (flat_map-snoc (λ (t : Turn). request_text t.request) served turn));
+          ∙ ap (λ (q : List ℕ). (q ++ after.rest) ++ drop old.taken old.whole) (sym (flat_map-snoc (λ (t : Exchange). request_text t.request) served turn));
       taken = λ t. so.taken t ∙ ap (λ n. start.taken + n) same;
       made = λ t. let (out, written, made) = so.made t in (
         out,
         written,
         ap (λ (m : List ℕ). out ++ m) a.written ∙ sym (append_assoc out gathered (reply_text a.reply)) ∙ ap (λ (l : List ℕ). l ++ reply_text a.reply) made
             ∙ ap (λ (l : List ℕ). replies_of served ++ l) (sym (append-nil (reply_text a.reply)))
-            ∙ sym (flat_map-snoc (λ (t : Turn). flat_map reply_text t.replies) served turn),
+            ∙ sym (flat_map-snoc (λ (t : Exchange). flat_map reply_text t.replies) served turn),
       );
-      ticks = λ t. subst (λ (ms : List Moment). Ticks ms start.site.moments site.moments) (sym (map-snoc (λ (t : Turn). t.now) served turn))
+      ticks = λ t. subst (λ (ms : List Moment). Ticks ms start.site.moments site.moments) (sym (map-snoc (λ (t : Exchange). t.now) served turn))
           (Ticks-snoc (moments_of served) a.served.now start.site.moments old.site.moments site.moments (so.ticks t) (a.served.ticks t));
       stands = λ t. let (log, leads, holds) = so.stands t in let (later, next, held) = a.served.goes t log holds in (
         later,
-        subst (λ (steps : List Step). LeadTo steps later) (sym (flat_map-snoc (λ (t : Turn). t.steps) served turn))
+        subst (λ (steps : List Step). LeadTo steps later) (sym (flat_map-snoc (λ (t : Exchange). t.steps) served turn))
             (leads_on (steps_of served) log a.served.step later leads next),
         held,
       );
-      counts = subst (λ (steps : List Step). CountedOver start.site site steps) (sym (flat_map-snoc (λ (t : Turn). t.steps) served turn))
+      counts = subst (λ (steps : List Step). CountedOver start.site site steps) (sym (flat_map-snoc (λ (t : Exchange). t.steps) served turn))
           (counts_on start.site old.site site (steps_of served) a.served.step so.counts a.served.counts.faults a.served.counts.views);
       sink = so.sink;
     }
 
 -- A part of what was gathered went out.
-pub moves_out : (tells : Telling) (start now : Scene) (stream : Stream) (gathered left written : List ℕ) (faults : ℕ) (served : List Turn)
+pub moves_out : (tells : Telling) (start now : Scene) (stream : Stream) (gathered left written : List ℕ) (faults : ℕ) (served : List Exchange)
     → SoFar tells start now stream gathered served → MovesOut tells.sink now.written gathered written left → now.sink_faults ≤ faults
     → SoFar tells start (with_sink now written faults) stream left served
 moves_out tells start now stream gathered left written faults served so moved later = record {
@@ -163,7 +163,7 @@ moves_out tells start now stream gathered left written faults served so moved la
 }
 
 -- One more piece of the input was taken.
-pub takes_on : (tells : Telling) (start now : Scene) (old new : Inlet) (gathered : List ℕ) (served : List Turn) (piece : List ℕ)
+pub takes_on : (tells : Telling) (start now : Scene) (old new : Inlet) (gathered : List ℕ) (served : List Exchange) (piece : List ℕ)
     → SoFar tells start now old.stream gathered served → now.whole ≡ old.whole → now.taken ≡ old.taken → TakesPiece tells.source old new piece
     → (IsTrue tells.source → new.whole ≡ old.whole)
     → SoFar tells start (with_source now new.whole new.taken) new.stream gathered served
@@ -186,14 +186,14 @@ takes_on tells start now old new gathered served piece so whole taken_is took sa
     go = omega (arith, took.offset, ap length took.rest, length-append old.stream.rest piece)
 
 -- a talk in which each request that was read was served
-abbrev pub whole_talk : List Turn → Talk
+abbrev pub whole_talk : List Exchange → Transcript
 whole_talk served = record { served = served; cut = [] }
 
-is_whole : (served : List Turn) → AllByRecursion (IsTurn 0) served → IsTalk 0 (whole_talk served)
+is_whole : (served : List Exchange) → AllByRecursion (IsExchange 0) served → IsTranscript 0 (whole_talk served)
 is_whole served each = record { each = each; last = tt; one = omega arith }
 
 -- in such a talk every request was served
-all_served : (status : Status) (served : List Turn) → IsServed status (whole_talk served)
+all_served : (status : Status) (served : List Exchange) → IsServed status (whole_talk served)
 all_served Done served = refl
 all_served Memory served = tt
 all_served Words served = refl
@@ -243,7 +243,7 @@ writes_whole Full before now out replies e = inl e
 writes_whole Door before now out replies e = inl e
 
 -- The run ends with all replies written, by a status whose part on the input holds.
-pub ends : (tells : Telling) (start now : Scene) (stream : Stream) (whole : List ℕ) (took : ℕ) (served : List Turn) (status : Status)
+pub ends : (tells : Telling) (start now : Scene) (stream : Stream) (whole : List ℕ) (took : ℕ) (served : List Exchange) (status : Status)
     → SoFar tells start now stream [] served
     → (IsTrue tells.source → whole ≡ now.whole)
     → (IsTrue tells.source → Reads status (drop start.taken start.whole) (drop took whole) (whole_talk served))
@@ -256,26 +256,26 @@ ends tells start now stream whole took served status so same reads most = record
   reads = reads;
   writes = λ t. let (out, was, made) = so.made t in
       (out, was, writes_whole status start.sink_faults now.sink_faults out (replies_of served) (sym (append-nil out) ∙ made));
-  ticks = λ t. subst (λ (ts : List Turn). Ticks (moments_of ts) start.site.moments now.site.moments) (sym (append-nil served)) (so.ticks t);
+  ticks = λ t. subst (λ (ts : List Exchange). Ticks (moments_of ts) start.site.moments now.site.moments) (sym (append-nil served)) (so.ticks t);
   most = most;
-  ends = λ t. subst (λ (ts : List Turn). EndsAt status now.site (steps_of ts)) (sym (append-nil served)) (ends_standing status now.site (steps_of served) (so.stands t));
-  counts = subst (λ (ts : List Turn). CountedOver start.site now.site (steps_of ts)) (sym (append-nil served)) so.counts;
+  ends = λ t. subst (λ (ts : List Exchange). EndsAt status now.site (steps_of ts)) (sym (append-nil served)) (ends_standing status now.site (steps_of served) (so.stands t));
+  counts = subst (λ (ts : List Exchange). CountedOver start.site now.site (steps_of ts)) (sym (append-nil served)) so.counts;
 }
 
 -- what the source held, where some of it is left
-pub some_left : (tells : Telling) (start now : Scene) (stream : Stream) (gathered : List ℕ) (served : List Turn) → SoFar tells start now stream gathered served
-    → IsTrue tells.source → (rest : List ℕ) × (drop start.taken start.whole ≡ requests_of (all_turns (whole_talk served)) ++ rest)
+pub some_left : (tells : Telling) (start now : Scene) (stream : Stream) (gathered : List ℕ) (served : List Exchange) → SoFar tells start now stream gathered served
+    → IsTrue tells.source → (rest : List ℕ) × (drop start.taken start.whole ≡ requests_of (all_exchanges (whole_talk served)) ++ rest)
 some_left tells start now stream gathered served so t = (
   stream.rest ++ drop now.taken now.whole,
   so.read t ∙ append_assoc (requests_of served) stream.rest (drop now.taken now.whole)
-      ∙ ap (λ (ts : List Turn). requests_of ts ++ (stream.rest ++ drop now.taken now.whole)) (sym (append-nil served)),
+      ∙ ap (λ (ts : List Exchange). requests_of ts ++ (stream.rest ++ drop now.taken now.whole)) (sym (append-nil served)),
 )
 
 Rose-from : (start before now : ℕ) → start ≤ before → Rose before now → Rose start now
 Rose-from start before now later rose = omega arith
 
 -- The sink failed, and the run ends by it.
-pub sink_ends : (tells : Telling) (start now : Scene) (stream : Stream) (gathered written : List ℕ) (faults : ℕ) (served : List Turn)
+pub sink_ends : (tells : Telling) (start now : Scene) (stream : Stream) (gathered written : List ℕ) (faults : ℕ) (served : List Exchange)
     → SoFar tells start now stream gathered served → FailsOut tells.sink now.written gathered written now.sink_faults faults
     → Stopped tells start (with_sink now written faults) Sink
 sink_ends tells start now stream gathered written faults served so failed = record {
@@ -289,10 +289,10 @@ sink_ends tells start now stream gathered written faults served so failed = reco
     is ∙ ap (λ (l : List ℕ). l ++ part) was ∙ append_assoc start.written out part,
     inr (rest, append_assoc out part rest ∙ ap (λ (l : List ℕ). out ++ l) split ∙ made, Rose-from start.sink_faults now.sink_faults faults so.sink failed.1),
   );
-  ticks = λ t. subst (λ (ts : List Turn). Ticks (moments_of ts) start.site.moments now.site.moments) (sym (append-nil served)) (so.ticks t);
+  ticks = λ t. subst (λ (ts : List Exchange). Ticks (moments_of ts) start.site.moments now.site.moments) (sym (append-nil served)) (so.ticks t);
   most = tt;
-  ends = λ t. subst (λ (ts : List Turn). StandsAfter now.site (steps_of ts)) (sym (append-nil served)) (so.stands t);
-  counts = subst (λ (ts : List Turn). CountedOver start.site now.site (steps_of ts)) (sym (append-nil served)) so.counts;
+  ends = λ t. subst (λ (ts : List Exchange). StandsAfter now.site (steps_of ts)) (sym (append-nil served)) (so.stands t);
+  counts = subst (λ (ts : List Exchange). CountedOver start.site now.site (steps_of ts)) (sym (append-nil served)) so.counts;
 }
 
 -- what the sink took before the run ended
@@ -310,7 +310,7 @@ last_written tells start before gathered now start_faults faults_before faults_n
     )
 
 -- A request was refused, and the run ends by it.
-refused_ends : (tells : Telling) (start old : Scene) (site : Site) (before after : Stream) (gathered written : List ℕ) (faults : ℕ) (served : List Turn) (request : Request)
+refused_ends : (tells : Telling) (start old : Scene) (site : Site) (before after : Stream) (gathered written : List ℕ) (faults : ℕ) (served : List Exchange) (request : Request)
     → SoFar tells start old before gathered served → StandsIn before.rest request after.rest
     → (r : Refused tells.disk tells.clock request old.site site)
     → Flushed tells.sink old.written written gathered old.sink_faults faults
@@ -326,28 +326,28 @@ refused_ends tells start old site before after gathered written faults served re
         after.rest ++ drop old.taken old.whole,
         reads_on (drop start.taken start.whole) (requests_of served) before.rest (request_text request) after.rest (drop old.taken old.whole) (so.read t) stands.whole
             ∙ append_assoc (requests_of served ++ request_text request) after.rest (drop old.taken old.whole)
-            ∙ ap (λ (q : List ℕ). q ++ (after.rest ++ drop old.taken old.whole)) (sym (flat_map-snoc (λ (t : Turn). request_text t.request) served turn)),
+            ∙ ap (λ (q : List ℕ). q ++ (after.rest ++ drop old.taken old.whole)) (sym (flat_map-snoc (λ (t : Exchange). request_text t.request) served turn)),
       );
       writes = λ t. last_written tells.sink start.written old.written gathered written start.sink_faults old.sink_faults faults (replies_of served) (so.made t) so.sink t flushed;
-      ticks = λ t. subst (λ (ms : List Moment). Ticks ms start.site.moments site.moments) (sym (map-snoc (λ (t : Turn). t.now) served turn))
+      ticks = λ t. subst (λ (ms : List Moment). Ticks ms start.site.moments site.moments) (sym (map-snoc (λ (t : Exchange). t.now) served turn))
           (Ticks-snoc (moments_of served) r.now start.site.moments old.site.moments site.moments (so.ticks t) (r.ticks t));
       most = tt;
       ends = λ t. let (log, leads, holds) = so.stands t in let (later, tried, next, few, image) = r.leaves t log holds in (
         later,
         tried,
-        subst (λ (steps : List Step). LeadTo steps later) (sym (flat_map-snoc (λ (t : Turn). t.steps) served turn))
+        subst (λ (steps : List Step). LeadTo steps later) (sym (flat_map-snoc (λ (t : Exchange). t.steps) served turn))
             (leads_on (steps_of served) log r.step later leads next),
         few,
         image,
       );
-      counts = subst (λ (steps : List Step). CountedOver start.site site steps) (sym (flat_map-snoc (λ (t : Turn). t.steps) served turn))
+      counts = subst (λ (steps : List Step). CountedOver start.site site steps) (sym (flat_map-snoc (λ (t : Exchange). t.steps) served turn))
           (counts_on start.site old.site site (steps_of served) r.step so.counts r.counts.faults r.counts.views);
     }
 
 by_disk : (tells : Telling) (start now : Scene) → Stopped tells start now Memory → Stopped tells start now Disk
 by_disk tells start now s = record { talk = s.talk; said = s.said; served = tt; whole = s.whole; reads = s.reads; writes = s.writes; ticks = s.ticks; most = s.most; ends = s.ends; counts = s.counts }
 
-pub refusal_ends : (refusal : Refusal) (tells : Telling) (start old : Scene) (site : Site) (before after : Stream) (gathered written : List ℕ) (faults : ℕ) (served : List Turn) (request : Request)
+pub refusal_ends : (refusal : Refusal) (tells : Telling) (start old : Scene) (site : Site) (before after : Stream) (gathered written : List ℕ) (faults : ℕ) (served : List Exchange) (request : Request)
     → SoFar tells start old before gathered served → StandsIn before.rest request after.rest
     → Refused tells.disk tells.clock request old.site site
     → Flushed tells.sink old.written written gathered old.sink_faults faults
@@ -358,7 +358,7 @@ refusal_ends refused_disk tells start old site before after gathered written fau
     by_disk tells start _ (refused_ends tells start old site before after gathered written faults served request so stands r flushed)
 
 -- Memory ran out before a request was served.
-pub memory_ends : (tells : Telling) (start now : Scene) (stream : Stream) (gathered written : List ℕ) (faults : ℕ) (served : List Turn)
+pub memory_ends : (tells : Telling) (start now : Scene) (stream : Stream) (gathered written : List ℕ) (faults : ℕ) (served : List Exchange)
     → SoFar tells start now stream gathered served → Flushed tells.sink now.written written gathered now.sink_faults faults
     → Stopped tells start (with_sink now written faults) Memory
 memory_ends tells start now stream gathered written faults served so flushed = record {
@@ -368,17 +368,17 @@ memory_ends tells start now stream gathered written faults served so flushed = r
   whole = so.whole;
   reads = some_left tells start now stream gathered served so;
   writes = λ t. last_written tells.sink start.written now.written gathered written start.sink_faults now.sink_faults faults (replies_of served) (so.made t) so.sink t flushed;
-  ticks = λ t. subst (λ (ts : List Turn). Ticks (moments_of ts) start.site.moments now.site.moments) (sym (append-nil served)) (so.ticks t);
+  ticks = λ t. subst (λ (ts : List Exchange). Ticks (moments_of ts) start.site.moments now.site.moments) (sym (append-nil served)) (so.ticks t);
   most = tt;
-  ends = λ t. subst (λ (ts : List Turn). LeftAfter now.site (steps_of ts)) (sym (append-nil served)) (left_standing now.site (steps_of served) (so.stands t));
-  counts = subst (λ (ts : List Turn). CountedOver start.site now.site (steps_of ts)) (sym (append-nil served)) so.counts;
+  ends = λ t. subst (λ (ts : List Exchange). LeftAfter now.site (steps_of ts)) (sym (append-nil served)) (left_standing now.site (steps_of served) (so.stands t));
+  counts = subst (λ (ts : List Exchange). CountedOver start.site now.site (steps_of ts)) (sym (append-nil served)) so.counts;
 }
 
 -- bytes that go on to no request are some
 fits_a : Fits (Get (97 ∷ []))
 fits_a = record { bounds = record { some = omega arith; short = omega arith }; bytes = λ i. grind (arith, common_steps) }
 
-pub bad_left : (tells : Telling) (start now : Scene) (stream : Stream) (gathered : List ℕ) (served : List Turn) → SoFar tells start now stream gathered served
+pub bad_left : (tells : Telling) (start now : Scene) (stream : Stream) (gathered : List ℕ) (served : List Exchange) → SoFar tells start now stream gathered served
     → IsBad stream.rest → IsTrue tells.source → Reads NotBuilt (drop start.taken start.whole) [] (whole_talk served)
 unfolding some_left
 bad_left tells start now stream gathered served so never t =
@@ -390,34 +390,34 @@ bad_left tells start now stream gathered served so never t =
     some [] back never = absurd (never (request_text (Get (97 ∷ []))) (Get (97 ∷ [])) [] (record { fits = fits_a; whole = sym (append-nil (request_text (Get (97 ∷ [])))) }))
 
 -- The input ended: within a request, or behind the last one.
-pub input_left : (tells : Telling) (start now : Scene) (stream : Stream) (gathered : List ℕ) (served : List Turn) → SoFar tells start now stream gathered served
+pub input_left : (tells : Telling) (start now : Scene) (stream : Stream) (gathered : List ℕ) (served : List Exchange) → SoFar tells start now stream gathered served
     → (IsTrue tells.source → drop now.taken now.whole ≡ []) → IsPartial stream.rest → 0 < length stream.rest
     → IsTrue tells.source → Reads NotBuilt (drop start.taken start.whole) [] (whole_talk served)
 input_left tells start now stream gathered served so none part some t = (
   stream.rest,
   so.read t ∙ ap (λ (l : List ℕ). (requests_of served ++ stream.rest) ++ l) (none t) ∙ append-nil (requests_of served ++ stream.rest)
-      ∙ ap (λ (ts : List Turn). requests_of ts ++ stream.rest) (sym (append-nil served)),
+      ∙ ap (λ (ts : List Exchange). requests_of ts ++ stream.rest) (sym (append-nil served)),
   some,
   none_in_partial stream.rest part,
 )
 
-pub all_read : (tells : Telling) (start now : Scene) (stream : Stream) (gathered : List ℕ) (served : List Turn) → SoFar tells start now stream gathered served
+pub all_read : (tells : Telling) (start now : Scene) (stream : Stream) (gathered : List ℕ) (served : List Exchange) → SoFar tells start now stream gathered served
     → (IsTrue tells.source → drop now.taken now.whole ≡ []) → stream.rest ≡ []
     → IsTrue tells.source → Reads Done (drop start.taken start.whole) [] (whole_talk served)
 all_read tells start now stream gathered served so none empty t =
     so.read t ∙ ap (λ (l : List ℕ). (requests_of served ++ stream.rest) ++ l) (none t) ∙ append-nil (requests_of served ++ stream.rest)
     ∙ ap (λ (l : List ℕ). requests_of served ++ l) empty ∙ append-nil (requests_of served)
-    ∙ ap (λ (ts : List Turn). requests_of ts) (sym (append-nil served))
+    ∙ ap (λ (ts : List Exchange). requests_of ts) (sym (append-nil served))
 
 -- The run stops with less than a request behind those that were served.
-partial_left : (tells : Telling) (start now : Scene) (stream : Stream) (gathered whole : List ℕ) (took : ℕ) (served : List Turn) → SoFar tells start now stream gathered served
+partial_left : (tells : Telling) (start now : Scene) (stream : Stream) (gathered whole : List ℕ) (took : ℕ) (served : List Exchange) → SoFar tells start now stream gathered served
     → (IsTrue tells.source → whole ≡ now.whole) → (IsTrue tells.source → took ≡ now.taken) → IsPartial stream.rest
     → IsTrue tells.source → ReadsAll (drop start.taken start.whole) (drop took whole) (whole_talk served)
 partial_left tells start now stream gathered whole took served so same unmoved part t = (
   stream.rest,
   so.read t
       ∙ ap (λ (l : List ℕ). (requests_of served ++ stream.rest) ++ l) (sym (ap (λ (n : ℕ). drop n whole) (unmoved t) ∙ ap (λ (w : List ℕ). drop now.taken w) (same t)))
-      ∙ ap (λ (ts : List Turn). (requests_of ts ++ stream.rest) ++ drop took whole) (sym (append-nil served)),
+      ∙ ap (λ (ts : List Exchange). (requests_of ts ++ stream.rest) ++ drop took whole) (sym (append-nil served)),
   part,
 )
 
@@ -436,7 +436,7 @@ asks_on None dt kt ct request old new written faults gathered more later faults_
     λ st whole took before after stands same start served so.
     let tells : Telling = telling dt st kt ct in
     let scene : Scene = scene_of old whole took written faults in
-    let turns : List Turn = served ++ turn_of request a.served.now a.served.step (a.reply ∷ []) ∷ [] in (
+    let turns : List Exchange = served ++ turn_of request a.served.now a.served.step (a.reply ∷ []) ∷ [] in (
       turns,
       moves_out tells start (at_site scene new) after more left later faults_later turns
           (goes_on tells start scene new before after gathered more served request so stands same a) some rises,
@@ -445,7 +445,7 @@ asks_on (Some status) dt kt ct request old new written faults gathered more late
     λ st whole took before after stands same start served so.
     let tells : Telling = telling dt st kt ct in
     let scene : Scene = scene_of old whole took written faults in
-    let turns : List Turn = served ++ turn_of request a.served.now a.served.step (a.reply ∷ []) ∷ [] in
+    let turns : List Exchange = served ++ turn_of request a.served.now a.served.step (a.reply ∷ []) ∷ [] in
     subst (λ (s : Status). Stopped tells start (scene_of new whole took later faults_later) s) (sym some.0)
     (sink_ends tells start (at_site scene new) after more later faults_later turns
     (goes_on tells start scene new before after gathered more served request so stands same a) some.1)
@@ -465,7 +465,7 @@ reads_no_more dt st kt ct site whole took written faults gathered later faults_l
     λ start served so. sink_ends (telling dt st kt ct) start (scene_of site whole took written faults) stream gathered later faults_later served so failed
 
 -- all that was gathered went out
-emptied : (tells : Telling) (start : Scene) (site : Site) (whole : List ℕ) (took : ℕ) (written : List ℕ) (faults : ℕ) (gathered later : List ℕ) (faults_later : ℕ) (stream : Stream) (served : List Turn)
+emptied : (tells : Telling) (start : Scene) (site : Site) (whole : List ℕ) (took : ℕ) (written : List ℕ) (faults : ℕ) (gathered later : List ℕ) (faults_later : ℕ) (stream : Stream) (served : List Exchange)
     → SoFar tells start (scene_of site whole took written faults) stream gathered served
     → (IsTrue tells.sink → Wrote written later gathered) → faults ≤ faults_later
     → SoFar tells start (scene_of site whole took later faults_later) stream [] served

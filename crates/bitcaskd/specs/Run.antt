@@ -12,7 +12,7 @@ use Rattle.bk_disk.specs.Stops.{IsSynced}
 use Rattle.bk_disk.specs.Told.{Image, Told}
 use Rattle.bk_laws.specs.History.{IsLegalHistory, log_of}
 use Rattle.bk_laws.specs.Wire.{IsPartial, NoneStands}
-use Rattle.bk_laws.specs.Session.{Talk, IsTalk, all_turns, requests_of, replies_of, steps_of, moments_of}
+use Rattle.bk_laws.specs.Session.{Transcript, IsTranscript, all_exchanges, requests_of, replies_of, steps_of, moments_of}
 use Rattle.bitcaskd.specs.Counts.{Counted}
 use Rattle.bitcaskd.specs.Serving.{Ticks}
 use Rattle.bitcaskd.specs.Shelf.{filed, files}
@@ -57,19 +57,19 @@ abbrev pub most_taken : ℕ
 most_taken = 1099511627776
 
 -- what was read is the requests, and behind them at most a first part of one more
-abbrev pub ReadsAll : List ℕ → List ℕ → Talk → Type 0
-ReadsAll input left talk = (part : List ℕ) × (input ≡ (requests_of (all_turns talk) ++ part) ++ left) × IsPartial part
+abbrev pub ReadsAll : List ℕ → List ℕ → Transcript → Type 0
+ReadsAll input left talk = (part : List ℕ) × (input ≡ (requests_of (all_exchanges talk) ++ part) ++ left) × IsPartial part
 
 -- Of the input, `left` wasn't read. Done: the input is exactly the requests. NotBuilt: behind them it
 -- isn't empty, and no request stands there. Source and Long: each request that was read whole is among
 -- them. Otherwise the input begins with them.
-abbrev pub Reads : Status → List ℕ → List ℕ → Talk → Type 0
-Reads Done input left talk = input ≡ requests_of (all_turns talk)
+abbrev pub Reads : Status → List ℕ → List ℕ → Transcript → Type 0
+Reads Done input left talk = input ≡ requests_of (all_exchanges talk)
 Reads NotBuilt input left talk =
-    (rest : List ℕ) × (input ≡ requests_of (all_turns talk) ++ rest) × (0 < length rest) × NoneStands rest
+    (rest : List ℕ) × (input ≡ requests_of (all_exchanges talk) ++ rest) × (0 < length rest) × NoneStands rest
 Reads Source input left talk = ReadsAll input left talk
 Reads Long input left talk = ReadsAll input left talk
-Reads status input left talk = (rest : List ℕ) × (input ≡ requests_of (all_turns talk) ++ rest)
+Reads status input left talk = (rest : List ℕ) × (input ≡ requests_of (all_exchanges talk) ++ rest)
 
 -- the replies to the requests that were served, whole, or as far as a sink took them that failed
 abbrev pub WrittenPart : ℕ → ℕ → List ℕ → List ℕ → Type 0
@@ -125,11 +125,11 @@ IsBuilt NotBuilt = Unit {0}
 IsBuilt status = ⊥
 
 -- all steps of a run
-abbrev pub all_steps : Talk → List Step → List Step
-all_steps talk closing = steps_of (all_turns talk) ++ closing
+abbrev pub all_steps : Transcript → List Step → List Step
+all_steps talk closing = steps_of (all_exchanges talk) ++ closing
 
--- Only a run that was refused, by the disk or for want of memory, has a request that got no reply.
-abbrev pub IsServed : Status → Talk → Type 0
+-- Only a run that was refused, by the disk or for out of memory, has a request that got no reply.
+abbrev pub IsServed : Status → Transcript → Type 0
 IsServed Memory talk = Unit {0}
 IsServed Disk talk = Unit {0}
 IsServed status talk = talk.cut ≡ []
@@ -150,16 +150,16 @@ pub record IsNew (o : Opening) : Type 0 where
 -- The run: one history from the empty log, whose replies are what was written.
 pub record Runs (tells : Telling) (old new : Outside) (status : Status) : Type 0 where
   pub opening : Opening
-  pub talk : Talk
+  pub talk : Transcript
   pub closing : List Step
   pub is_new : IsNew opening
   pub listed : IsTrue tells.disk → old.told.image ≡ []
-  pub said : IsTalk 0 talk
+  pub said : IsTranscript 0 talk
   pub served : IsServed status talk
   pub whole : IsTrue tells.source → new.whole ≡ old.whole
   pub reads : IsTrue tells.source → Reads status (drop old.taken old.whole) (drop new.taken new.whole) talk
   pub writes : IsTrue tells.sink → (out : List ℕ) × (new.written ≡ old.written ++ out) × Writes status old.sink_faults new.sink_faults out (replies_of talk.served)
-  pub ticks : IsTrue tells.clock → Ticks (moments_of (all_turns talk)) old.moments new.moments
+  pub ticks : IsTrue tells.clock → Ticks (moments_of (all_exchanges talk)) old.moments new.moments
   pub closes : Closes tells.disk new.told status closing
   pub most : TakesMost status tells.source old.taken new.taken
   pub legal : IsTrue tells.disk → IsLegalHistory opening (all_steps talk closing)

@@ -61,7 +61,7 @@ Leaves old new step =
     (log : List Write) → Holds old.told old.catalog old.index log
     → (later tried : List Write) × Leads log step later × (length tried ≤ 1) × IsImageOf new.told.image later tried
 
--- how the counts of faults and of weak views went on in the step
+-- how the counts of faults and of fallible views went on in the step
 pub record CountsOn (old new : Site) (step : Step) : Type 0 where
   pub faults : Counted old.faults step.faults new.faults
   pub views : Counted old.views step.views new.views

@@ -9,7 +9,7 @@ use Rattle.bk_base.specs.declared.writes.Write.{Write}
 use Rattle.bk_disk.specs.Causes.{Rose}
 use Rattle.bk_files.specs.declared.catalog.Catalog.{Catalog}
 use Rattle.bk_laws.specs.History.{IsLegal, state_of, entries}
-use Rattle.bk_laws.specs.Session.{Turn, IsTurn, Talk, IsTalk, all_turns, requests_of, replies_of, steps_of, moments_of}
+use Rattle.bk_laws.specs.Session.{Exchange, IsExchange, Transcript, IsTranscript, all_exchanges, requests_of, replies_of, steps_of, moments_of}
 use Rattle.bk_laws.specs.Wire.{StandsIn}
 use Rattle.bk_wire.specs.Stream.{Stream, taken}
 use Rattle.bitcaskd.specs.Counts.{Counted}
@@ -58,15 +58,15 @@ StandsAfter site steps = (log : List Write) × LeadTo steps log × Holds site.to
 abbrev pub LeftAfter : Site → List Step → Type 0
 LeftAfter site steps = (log tried : List Write) × LeadTo steps log × (length tried ≤ 1) × IsImageOf site.told.image log tried
 
--- the counts of faults and of weak views went on over the steps
+-- the counts of faults and of fallible views went on over the steps
 pub record CountedOver (old new : Site) (steps : List Step) : Type 0 where
   pub faults : Counted old.faults (faults_in steps) new.faults
   pub views : Counted old.views (views_in steps) new.views
 
 -- Between two requests: these turns were served, the reader holds what was taken behind their
 -- requests, and what was written and gathered are their replies.
-pub record SoFar (tells : Telling) (start now : Scene) (stream : Stream) (gathered : List ℕ) (served : List Turn) : Type 0 where
-  pub each : AllByRecursion (IsTurn 0) served
+pub record SoFar (tells : Telling) (start now : Scene) (stream : Stream) (gathered : List ℕ) (served : List Exchange) : Type 0 where
+  pub each : AllByRecursion (IsExchange 0) served
   pub whole : IsTrue tells.source → now.whole ≡ start.whole
   pub read : IsTrue tells.source → drop start.taken start.whole ≡ (requests_of served ++ stream.rest) ++ drop now.taken now.whole
   pub taken : IsTrue tells.source → now.taken ≡ start.taken + taken stream
@@ -84,16 +84,16 @@ EndsAt status site steps = StandsAfter site steps
 
 -- The run ended before its last sync.
 pub record Stopped (tells : Telling) (start now : Scene) (status : Status) : Type 0 where
-  pub talk : Talk
-  pub said : IsTalk 0 talk
+  pub talk : Transcript
+  pub said : IsTranscript 0 talk
   pub served : IsServed status talk
   pub whole : IsTrue tells.source → now.whole ≡ start.whole
   pub reads : IsTrue tells.source → Reads status (drop start.taken start.whole) (drop now.taken now.whole) talk
   pub writes : IsTrue tells.sink → (out : List ℕ) × (now.written ≡ start.written ++ out) × Writes status start.sink_faults now.sink_faults out (replies_of talk.served)
-  pub ticks : IsTrue tells.clock → Ticks (moments_of (all_turns talk)) start.site.moments now.site.moments
+  pub ticks : IsTrue tells.clock → Ticks (moments_of (all_exchanges talk)) start.site.moments now.site.moments
   pub most : TakesMost status tells.source start.taken now.taken
-  pub ends : IsTrue tells.disk → EndsAt status now.site (steps_of (all_turns talk))
-  pub counts : CountedOver start.site now.site (steps_of (all_turns talk))
+  pub ends : IsTrue tells.disk → EndsAt status now.site (steps_of (all_exchanges talk))
+  pub counts : CountedOver start.site now.site (steps_of (all_exchanges talk))
 
 -- what is left to be read falls with each turn
 abbrev pub work_left : Stream → ℕ
@@ -131,13 +131,13 @@ scene_of site whole taken written sink_faults = record { site = site; whole = wh
 -- wherever the run had come from, it has come further
 abbrev pub ComesOn : Telling → Scene → Stream → List ℕ → Scene → Stream → List ℕ → Type 0
 ComesOn tells old stream gathered new later more =
-    (start : Scene) (served : List Turn) → SoFar tells start old stream gathered served
-    → (turns : List Turn) × SoFar tells start new later more turns
+    (start : Scene) (served : List Exchange) → SoFar tells start old stream gathered served
+    → (turns : List Exchange) × SoFar tells start new later more turns
 
 -- wherever the run had come from, it has ended so
 abbrev pub ComesToEnd : Telling → Scene → Stream → List ℕ → Scene → Status → Type 0
 ComesToEnd tells old stream gathered new status =
-    (start : Scene) (served : List Turn) → SoFar tells start old stream gathered served → Stopped tells start new status
+    (start : Scene) (served : List Exchange) → SoFar tells start old stream gathered served → Stopped tells start new status
 
 -- How a turn of the run went: it goes on, or it has ended with a status.
 abbrev pub Turns : Option Status → Telling → Scene → Stream → List ℕ → Scene → Stream → List ℕ → Type 0

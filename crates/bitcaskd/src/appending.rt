@@ -39,7 +39,7 @@ pub fn append_text<D: Disk>(files: &mut Files<D>, text: &[u8]) -> Result<u64, Re
     ensures later { D.faults files.old.disk ≤ D.faults files.new.disk }
     ensures disk { IsErrOf result Refusal.Disk → Rose (D.faults files.old.disk)
         (D.faults files.new.disk) }
-    ensures views { D.weak_views files.new.disk ≡ D.weak_views files.old.disk }
+    ensures views { D.fallible_views files.new.disk ≡ D.fallible_views files.old.disk }
 {
     open_newest(files, text.len() as u32)?;
     Ok(files.append(text)?)
@@ -68,7 +68,7 @@ fn open_newest<D: Disk>(files: &mut Files<D>, size: u32) -> Result<(), Refusal>
     ensures later { D.faults files.old.disk ≤ D.faults files.new.disk }
     ensures disk { IsErrOf result Refusal.Disk → Rose (D.faults files.old.disk)
         (D.faults files.new.disk) }
-    ensures views { D.weak_views files.new.disk ≡ D.weak_views files.old.disk }
+    ensures views { D.fallible_views files.new.disk ≡ D.fallible_views files.old.disk }
 {
     files.repair()?;
     roll_if_due(files, size)?;
@@ -98,7 +98,7 @@ fn roll_if_due<D: Disk>(files: &mut Files<D>, size: u32) -> Result<(), Refusal>
     ensures later { D.faults files.old.disk ≤ D.faults files.new.disk }
     ensures disk { IsErrOf result Refusal.Disk → Rose (D.faults files.old.disk)
         (D.faults files.new.disk) }
-    ensures views { D.weak_views files.new.disk ≡ D.weak_views files.old.disk }
+    ensures views { D.fallible_views files.new.disk ≡ D.fallible_views files.old.disk }
 {
     if !files.due(size) {
         return Ok(());

@@ -16,7 +16,7 @@ pub fn close<D: Disk>(store: &mut Store<D>, status: Status) -> Status
         (D.told store.old.files.disk).image }
     ensures closes { ClosesBy D.tells status result (D.told store.new.files.disk)
         (D.faults store.old.files.disk) (D.faults store.new.files.disk) }
-    ensures views { D.weak_views store.new.files.disk ≡ D.weak_views store.old.files.disk }
+    ensures views { D.fallible_views store.new.files.disk ≡ D.fallible_views store.old.files.disk }
     ensures later { D.faults store.old.files.disk ≤ D.faults store.new.files.disk }
 {
     match status {

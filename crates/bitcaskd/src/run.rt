@@ -44,7 +44,7 @@ fn look<D: Disk>(disk: &mut D) -> Found
     ensures later { D.faults disk.old ≤ D.faults disk.new }
     ensures refused { result ≡ Found.Refused Refusal.Disk → Rose (D.faults disk.old)
         (D.faults disk.new) }
-    ensures views { D.weak_views disk.new ≡ D.weak_views disk.old }
+    ensures views { D.fallible_views disk.new ≡ D.fallible_views disk.old }
 {
     match disk.list() {
         Ok(files) => {
@@ -68,15 +68,15 @@ fn over_disk<D: Disk, S: Source, K: Sink, C: Clock>(
     clock: &mut C,
 ) -> Ended<D>
     ensures ran { let tells = telling D.tells S.tells K.tells C.tells in
-        let old = outside (D.told disk) (D.faults disk) (D.weak_views disk) (S.whole source.old)
+        let old = outside (D.told disk) (D.faults disk) (D.fallible_views disk) (S.whole source.old)
         (S.taken source.old) (K.written sink.old) (K.faults sink.old) (C.moments clock.old) in
-        let new = outside (D.told result.disk) (D.faults result.disk) (D.weak_views result.disk)
+        let new = outside (D.told result.disk) (D.faults result.disk) (D.fallible_views result.disk)
         (S.whole source.new) (S.taken source.new) (K.written sink.new) (K.faults sink.new)
         (C.moments clock.new) in
         Refuses tells old new result.status ⊎ Runs tells old new result.status }
     ensures built { IsBuilt result.status }
     ensures disk { result.status ≡ Status.Disk → Rose (D.faults disk) (D.faults result.disk)
-        ⊎ Rose (D.weak_views disk) (D.weak_views result.disk) }
+        ⊎ Rose (D.fallible_views disk) (D.fallible_views result.disk) }
     ensures source { result.status ≡ Status.Source
         → Rose (S.faults source.old) (S.faults source.new) }
     ensures sink { result.status ≡ Status.Sink → Rose (K.faults sink.old) (K.faults sink.new) }
@@ -104,15 +104,15 @@ fn over_empty<D: Disk, S: Source, K: Sink, C: Clock>(
 ) -> Ended<D>
     requires { IsTrue D.tells → (D.told disk).image ≡ [] }
     ensures ran { let tells = telling D.tells S.tells K.tells C.tells in
-        let old = outside (D.told disk) (D.faults disk) (D.weak_views disk) (S.whole source.old)
+        let old = outside (D.told disk) (D.faults disk) (D.fallible_views disk) (S.whole source.old)
         (S.taken source.old) (K.written sink.old) (K.faults sink.old) (C.moments clock.old) in
-        let new = outside (D.told result.disk) (D.faults result.disk) (D.weak_views result.disk)
+        let new = outside (D.told result.disk) (D.faults result.disk) (D.fallible_views result.disk)
         (S.whole source.new) (S.taken source.new) (K.written sink.new) (K.faults sink.new)
         (C.moments clock.new) in
         Runs tells old new result.status }
     ensures built { IsBuilt result.status }
     ensures disk { result.status ≡ Status.Disk → Rose (D.faults disk) (D.faults result.disk)
-        ⊎ Rose (D.weak_views disk) (D.weak_views result.disk) }
+        ⊎ Rose (D.fallible_views disk) (D.fallible_views result.disk) }
     ensures source { result.status ≡ Status.Source
         → Rose (S.faults source.old) (S.faults source.new) }
     ensures sink { result.status ≡ Status.Sink → Rose (K.faults sink.old) (K.faults sink.new) }
@@ -146,9 +146,9 @@ pub fn run<D: Disk, S: Source, K: Sink, C: Clock>(
     // Otherwise the run is refused before it reads anything, or it is one history, from the bytes
     // read to the bytes written.
     ensures ran { let tells = telling D.tells S.tells K.tells C.tells in
-        let old = outside (D.told disk) (D.faults disk) (D.weak_views disk) (S.whole source.old)
+        let old = outside (D.told disk) (D.faults disk) (D.fallible_views disk) (S.whole source.old)
         (S.taken source.old) (K.written sink.old) (K.faults sink.old) (C.moments clock.old) in
-        let new = outside (D.told result.disk) (D.faults result.disk) (D.weak_views result.disk)
+        let new = outside (D.told result.disk) (D.faults result.disk) (D.fallible_views result.disk)
         (S.whole source.new) (S.taken source.new) (K.written sink.new) (K.faults sink.new)
         (C.moments clock.new) in
         IsPipe (map string_bytes words.now)
@@ -157,7 +157,7 @@ pub fn run<D: Disk, S: Source, K: Sink, C: Clock>(
     // Each status other than `Done` has its cause; `Memory` alone is free.
     ensures built { IsBuilt result.status }
     ensures disk { result.status ≡ Status.Disk → Rose (D.faults disk) (D.faults result.disk)
-        ⊎ Rose (D.weak_views disk) (D.weak_views result.disk) }
+        ⊎ Rose (D.fallible_views disk) (D.fallible_views result.disk) }
     ensures source { result.status ≡ Status.Source
         → Rose (S.faults source.old) (S.faults source.new) }
     ensures sink { result.status ≡ Status.Sink → Rose (K.faults sink.old) (K.faults sink.new) }

@@ -30,19 +30,19 @@ fn serve<D: Disk, C: Clock>(
     ensures last { OnOk result (store.new.index.last ≤ store.old.index.last + length
         (request_text request)) }
     ensures ok { let old = site_of (D.told store.old.files.disk) store.old.files.catalog store.old.index
-        (D.faults store.old.files.disk) (D.weak_views store.old.files.disk) (C.moments clock.old) in
+        (D.faults store.old.files.disk) (D.fallible_views store.old.files.disk) (C.moments clock.old) in
         let new = site_of (D.told store.new.files.disk) store.new.files.catalog store.new.index
-        (D.faults store.new.files.disk) (D.weak_views store.new.files.disk) (C.moments clock.new) in
+        (D.faults store.new.files.disk) (D.fallible_views store.new.files.disk) (C.moments clock.new) in
         IfOk result (λ reply. Served D.tells C.tells request reply old new) }
     ensures err { let old = site_of (D.told store.old.files.disk) store.old.files.catalog store.old.index
-        (D.faults store.old.files.disk) (D.weak_views store.old.files.disk) (C.moments clock.old) in
+        (D.faults store.old.files.disk) (D.fallible_views store.old.files.disk) (C.moments clock.old) in
         let new = site_of (D.told store.new.files.disk) store.new.files.catalog store.new.index
-        (D.faults store.new.files.disk) (D.weak_views store.new.files.disk) (C.moments clock.new) in
+        (D.faults store.new.files.disk) (D.fallible_views store.new.files.disk) (C.moments clock.new) in
         OnErr result (Refused D.tells C.tells request old new) }
     ensures later { D.faults store.old.files.disk ≤ D.faults store.new.files.disk }
     ensures disk { IsErrOf result Refusal.Disk → Rose (D.faults store.old.files.disk)
-        (D.faults store.new.files.disk) ⊎ Rose (D.weak_views store.old.files.disk)
-        (D.weak_views store.new.files.disk) }
+        (D.faults store.new.files.disk) ⊎ Rose (D.fallible_views store.old.files.disk)
+        (D.fallible_views store.new.files.disk) }
 {
     let now = clock.now();
     match request {
@@ -76,21 +76,21 @@ pub fn answer<D: Disk, C: Clock>(
     ensures last { OnOk result (store.new.index.last ≤ store.old.index.last + length
         (request_text request)) }
     ensures ok { let old = site_of (D.told store.old.files.disk) store.old.files.catalog store.old.index
-        (D.faults store.old.files.disk) (D.weak_views store.old.files.disk) (C.moments clock.old) in
+        (D.faults store.old.files.disk) (D.fallible_views store.old.files.disk) (C.moments clock.old) in
         let new = site_of (D.told store.new.files.disk) store.new.files.catalog store.new.index
-        (D.faults store.new.files.disk) (D.weak_views store.new.files.disk) (C.moments clock.new) in
+        (D.faults store.new.files.disk) (D.fallible_views store.new.files.disk) (C.moments clock.new) in
         OnOk result
         (Answered D.tells C.tells request old new replies.old.items replies.new.items) }
     ensures err { let old = site_of (D.told store.old.files.disk) store.old.files.catalog store.old.index
-        (D.faults store.old.files.disk) (D.weak_views store.old.files.disk) (C.moments clock.old) in
+        (D.faults store.old.files.disk) (D.fallible_views store.old.files.disk) (C.moments clock.old) in
         let new = site_of (D.told store.new.files.disk) store.new.files.catalog store.new.index
-        (D.faults store.new.files.disk) (D.weak_views store.new.files.disk) (C.moments clock.new) in
+        (D.faults store.new.files.disk) (D.fallible_views store.new.files.disk) (C.moments clock.new) in
         OnErr result (Refused D.tells C.tells request old new) }
     ensures kept { OnErr result (replies.new.items ≡ replies.old.items) }
     ensures later { D.faults store.old.files.disk ≤ D.faults store.new.files.disk }
     ensures disk { IsErrOf result Refusal.Disk → Rose (D.faults store.old.files.disk)
-        (D.faults store.new.files.disk) ⊎ Rose (D.weak_views store.old.files.disk)
-        (D.weak_views store.new.files.disk) }
+        (D.faults store.new.files.disk) ⊎ Rose (D.fallible_views store.old.files.disk)
+        (D.fallible_views store.new.files.disk) }
 {
     let reply = match serve(alloc, store, clock, request) {
         Ok(reply) => reply,

@@ -70,7 +70,7 @@ impl<D: Disk> Store<D> {
         ensures later { D.faults self.old.files.disk ≤ D.faults self.new.files.disk }
         ensures disk { IsErrOf result Refusal.Disk → Rose (D.faults self.old.files.disk)
             (D.faults self.new.files.disk) }
-        ensures views { D.weak_views self.new.files.disk ≡ D.weak_views self.old.files.disk }
+        ensures views { D.fallible_views self.new.files.disk ≡ D.fallible_views self.old.files.disk }
     {
         let seq = Seq(self.index.last + 1);
         let len = value_len(&value);
@@ -109,11 +109,11 @@ impl<D: Disk> Store<D> {
             self.old.files.catalog self.old.index (D.told self.new.files.disk)
             self.new.files.catalog self.new.index }
         ensures faults { D.faults self.old.files.disk ≤ D.faults self.new.files.disk }
-        ensures views { Counts (D.weak_views self.old.files.disk)
-            (D.weak_views self.new.files.disk) }
+        ensures views { Counts (D.fallible_views self.old.files.disk)
+            (D.fallible_views self.new.files.disk) }
         ensures disk { IsErrOf result Refusal.Disk → Rose (D.faults self.old.files.disk)
-            (D.faults self.new.files.disk) ⊎ Rose (D.weak_views self.old.files.disk)
-            (D.weak_views self.new.files.disk) }
+            (D.faults self.new.files.disk) ⊎ Rose (D.fallible_views self.old.files.disk)
+            (D.fallible_views self.new.files.disk) }
     {
         let Some(place) = self.index.place(key) else {
             return Ok(None);
@@ -133,7 +133,7 @@ impl<D: Disk> Store<D> {
         ensures synced { IsTrue D.tells → OnOk result (IsSynced (D.told self.new.files.disk)) }
         ensures cause { IsCaused (D.faults self.old.files.disk) (D.faults self.new.files.disk)
             result }
-        ensures views { D.weak_views self.new.files.disk ≡ D.weak_views self.old.files.disk }
+        ensures views { D.fallible_views self.new.files.disk ≡ D.fallible_views self.old.files.disk }
     {
         self.files.sync()?;
         Ok(Seq(self.index.last))
@@ -152,7 +152,7 @@ impl<D: Disk> Store<D> {
 fn read_value<V: View + Drop>(alloc: Global, mut view: V, place: Place) -> Result<Value, Refusal>
     requires { V.rest view ≡ place.len }
     ensures value { IsTrue V.tells → IfOk result (λ value. value ≡ take place.len (V.left view)) }
-    ensures disk { IsErrOf result Refusal.Disk → V.weak view ≡ true }
+    ensures disk { IsErrOf result Refusal.Disk → V.fallible view ≡ true }
 {
     let mut bytes: Vec<u8> = zeros(alloc, place.len)?;
     fill(&mut view, bytes.as_mut_slice())?;
@@ -164,7 +164,7 @@ fn fill<V: View>(view: &mut V, into: &mut [u8]) -> Result<(), Failed>
     requires { V.rest view.old ≡ length into.old }
     ensures bytes { IsTrue V.tells → OnOk result
         (into.new ≡ take (length into.old) (V.left view.old)) }
-    ensures failed { OnErr result (V.weak view.old ≡ true) }
+    ensures failed { OnErr result (V.fallible view.old ≡ true) }
 {
     let mut at = 0;
     while at < into.len() {

@@ -64,14 +64,14 @@ fn ask<D: Disk, K: Sink, C: Clock>(
         (D.told store.new.files.disk) store.new.files.catalog store.new.index }
     ensures turns { Asks result D.tells K.tells C.tells request
         (site_of (D.told store.old.files.disk) store.old.files.catalog store.old.index
-        (D.faults store.old.files.disk) (D.weak_views store.old.files.disk) (C.moments clock.old))
+        (D.faults store.old.files.disk) (D.fallible_views store.old.files.disk) (C.moments clock.old))
         (K.written sink.old) (K.faults sink.old) replies.old.items
         (site_of (D.told store.new.files.disk) store.new.files.catalog store.new.index
-        (D.faults store.new.files.disk) (D.weak_views store.new.files.disk) (C.moments clock.new))
+        (D.faults store.new.files.disk) (D.fallible_views store.new.files.disk) (C.moments clock.new))
         (K.written sink.new) (K.faults sink.new) replies.new.items }
     ensures disk { result ≡ Some Status.Disk → Rose (D.faults store.old.files.disk)
-        (D.faults store.new.files.disk) ⊎ Rose (D.weak_views store.old.files.disk)
-        (D.weak_views store.new.files.disk) }
+        (D.faults store.new.files.disk) ⊎ Rose (D.fallible_views store.old.files.disk)
+        (D.fallible_views store.new.files.disk) }
     ensures sink { result ≡ Some Status.Sink → Rose (K.faults sink.old) (K.faults sink.new) }
     ensures not_source { result ≢ Some Status.Source }
     ensures faults { D.faults store.old.files.disk ≤ D.faults store.new.files.disk }
@@ -186,17 +186,17 @@ fn turn<D: Disk, S: Source, K: Sink, C: Clock>(
     ensures fewer { result ≡ None → work_left desk.new.reader < work_left desk.old.reader }
     ensures turns { Turns result (telling D.tells S.tells K.tells C.tells)
         (scene_of (site_of (D.told store.old.files.disk) store.old.files.catalog store.old.index
-        (D.faults store.old.files.disk) (D.weak_views store.old.files.disk) (C.moments clock.old))
+        (D.faults store.old.files.disk) (D.fallible_views store.old.files.disk) (C.moments clock.old))
         (S.whole source.old) (S.taken source.old) (K.written sink.old)
         (K.faults sink.old)) desk.old.reader desk.old.replies.items
         (scene_of (site_of (D.told store.new.files.disk) store.new.files.catalog store.new.index
-        (D.faults store.new.files.disk) (D.weak_views store.new.files.disk) (C.moments clock.new))
+        (D.faults store.new.files.disk) (D.fallible_views store.new.files.disk) (C.moments clock.new))
         (S.whole source.new) (S.taken source.new) (K.written sink.new)
         (K.faults sink.new)) desk.new.reader desk.new.replies.items }
     ensures faults { D.faults store.old.files.disk ≤ D.faults store.new.files.disk }
     ensures disk { result ≡ Some Status.Disk → Rose (D.faults store.old.files.disk)
-        (D.faults store.new.files.disk) ⊎ Rose (D.weak_views store.old.files.disk)
-        (D.weak_views store.new.files.disk) }
+        (D.faults store.new.files.disk) ⊎ Rose (D.fallible_views store.old.files.disk)
+        (D.fallible_views store.new.files.disk) }
     ensures took { S.faults source.old ≤ S.faults source.new }
     ensures source { result ≡ Some Status.Source → Rose (S.faults source.old)
         (S.faults source.new) }
@@ -260,15 +260,15 @@ pub fn talk<D: Disk, S: Source, K: Sink, C: Clock>(
     requires last { store.old.index.last ≡ 0 }
     ensures stopped { Stopped (telling D.tells S.tells K.tells C.tells)
         (scene_of (site_of (D.told store.old.files.disk) store.old.files.catalog store.old.index
-        (D.faults store.old.files.disk) (D.weak_views store.old.files.disk) (C.moments clock.old))
+        (D.faults store.old.files.disk) (D.fallible_views store.old.files.disk) (C.moments clock.old))
         (S.whole source.old) (S.taken source.old) (K.written sink.old) (K.faults sink.old))
         (scene_of (site_of (D.told store.new.files.disk) store.new.files.catalog store.new.index
-        (D.faults store.new.files.disk) (D.weak_views store.new.files.disk) (C.moments clock.new))
+        (D.faults store.new.files.disk) (D.fallible_views store.new.files.disk) (C.moments clock.new))
         (S.whole source.new) (S.taken source.new) (K.written sink.new) (K.faults sink.new)) result }
     ensures faults { D.faults store.old.files.disk ≤ D.faults store.new.files.disk }
     ensures disk { result ≡ Status.Disk → Rose (D.faults store.old.files.disk)
-        (D.faults store.new.files.disk) ⊎ Rose (D.weak_views store.old.files.disk)
-        (D.weak_views store.new.files.disk) }
+        (D.faults store.new.files.disk) ⊎ Rose (D.fallible_views store.old.files.disk)
+        (D.fallible_views store.new.files.disk) }
     ensures source { result ≡ Status.Source → Rose (S.faults source.old) (S.faults source.new) }
     ensures sink { result ≡ Status.Sink → Rose (K.faults sink.old) (K.faults sink.new) }
     ensures built { IsBuilt result }

@@ -1,5 +1,5 @@
 //! What a history records: its opening, and of each step the entry with the counts that rose and
-//! a glance at the files. None of it is ever made by a running program: contracts speak of it.
+//! a snapshot of the files. None of it is ever made by a running program: contracts speak of it.
 
 use crate::calls::Entry;
 use crate::jobs::JobState;
@@ -26,14 +26,14 @@ pub struct WrittenFile {
 /// The store's files as a step ended: the rows, the last file id and the merge in work. Where the
 /// disk tells its content, `written` has the records of each input and done output of that merge.
 #[derive(Drop)]
-pub struct Glance {
+pub struct Snapshot {
     pub rows: LinkedList<Row>,
     pub written: LinkedList<WrittenFile>,
     pub job: Option<JobState>,
     pub last_file: FileId,
 }
 
-/// One step of a history: an entry, and by how much the counts of disk faults, weak views and weak
+/// One step of a history: an entry, and by how much the counts of disk faults, fallible views and fallible
 /// files rose in its event.
 #[derive(Drop)]
 pub struct Step {
@@ -43,7 +43,7 @@ pub struct Step {
     pub outs: u64,
     /// The disk's clock as the event ended, where the disk tells it.
     pub at: Option<u64>,
-    pub glance: Glance,
+    pub snapshot: Snapshot,
     /// The step ended a merge whose inputs are gone and whose outputs hold nothing superseded.
     pub clean: bool,
 }
@@ -72,7 +72,7 @@ pub struct StoreSettings {
 pub struct Opening {
     pub log: LinkedList<Write>,
     pub folds: LinkedList<OpenFold>,
-    pub glance: Glance,
+    pub snapshot: Snapshot,
     pub settings: StoreSettings,
     pub faults: u64,
     pub views: u64,

@@ -5,7 +5,7 @@ ghost use Rattle.std.specs.Str.{bytes_eq};
 ghost use Rattle.std.proofs.Common.{rules};
 ghost use Rattle.bk_base.specs.Bounds.{AreBytes, IsKey};
 
-use crate::refusals::Memory;
+use crate::errors::Memory;
 use std::hash::{Hash, Hasher};
 use std::marker::Model;
 

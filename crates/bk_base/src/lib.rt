@@ -3,12 +3,12 @@
 #![tactic(auto)]
 
 mod calls;
+mod errors;
 mod histories;
 mod jobs;
 mod keys;
 mod names;
 mod numbers;
-mod refusals;
 mod requests;
 mod rows;
 mod statuses;
@@ -16,12 +16,12 @@ mod values;
 mod writes;
 
 pub use calls::{Answer, Call, Entry};
-pub use histories::{Glance, OpenFold, Opening, Placed, Step, StoreSettings, WrittenFile};
+pub use errors::Memory;
+pub use histories::{OpenFold, Opening, Placed, Snapshot, Step, StoreSettings, WrittenFile};
 pub use jobs::{Cause, JobInput, JobPart, JobState, PartState, Phase};
 pub use keys::{Key, KeyLength};
 pub use names::{Kind, Name, one_text};
 pub use numbers::{FileId, Moment, Seq};
-pub use refusals::Memory;
 pub use requests::{Reply, Request};
 pub use rows::{Row, RowState};
 pub use statuses::{SessionEnd, Status};

@@ -5,7 +5,7 @@ ghost use Rattle.bk_base.specs.declared.names.Kind.{Kind};
 ghost use Rattle.bk_base.specs.declared.names.Name.{Name};
 ghost use Rattle.bk_base.specs.Names.{IsFileNumber, IsListed, ending_of, text_of};
 
-use crate::refusals::Memory;
+use crate::errors::Memory;
 use std::alloc::{AllocError, Global};
 
 /// What a file of the store holds.

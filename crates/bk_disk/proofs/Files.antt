@@ -6,7 +6,7 @@ use Rattle.std.specs.Option.{option_map, is_some, IsSome, IsSomeAnd, unwrap_or}
 use Rattle.bk_base.specs.declared.names.Name.{Name}
 use Rattle.bk_disk.specs.Names.{same}
 use Rattle.bk_disk.specs.Told.{untold, Table, Image, Front, Told, at, names, IsOnce, changed, bytes_of, IsOurs, IsAbsent, IsOneThere, IsWell}
-use Rattle.bk_disk.specs.Calls.{Becomes, Appended, Synced, Cut, Made, Removed, Renamed, Returned, fresh, handed_more, all_safe, brought_back}
+use Rattle.bk_disk.specs.Calls.{Becomes, Appended, Synced, Cut, Made, Removed, Renamed, Returned, fresh, pending_more, all_synced, brought_back}
 use Rattle.std.proofs.lemmas.Bool.{cases_Bool}
 use Rattle.std.proofs.lemmas.List.{take_all}
 use Rattle.bk_disk.proofs.Names.{same_eq}
@@ -81,7 +81,7 @@ well_returned n bytes old new b w = well_changed n n (λ _. bytes) (brought_back
 
 pub well_appended : (n : Name) (count : ℕ) (piece : List ℕ) (old new : Told) → Appended n count piece old new → IsWell old → IsWell new
 well_appended n count piece old new b w =
-    well_changed n n (λ bytes. bytes ++ take count piece) (handed_more (length (bytes_of n old.image ++ take count piece)) piece) old new b w
+    well_changed n n (λ bytes. bytes ++ take count piece) (pending_more (length (bytes_of n old.image ++ take count piece)) piece) old new b w
 
 -- The file is there and isn't lent
 
@@ -102,10 +102,10 @@ still_ours n m f fronts keeps ours =
 
 pub appended_ours : (n m : Name) (count : ℕ) (piece : List ℕ) (old new : Told) → Appended m count piece old new → IsOurs n old → IsOurs n new
 appended_ours n m count piece old new b ours =
-    (rw (b.image, there-changed) ours.0, rw b.fronts (still_ours n m (handed_more (length (bytes_of m old.image ++ take count piece)) piece) old.fronts (λ x. refl) ours.1))
+    (rw (b.image, there-changed) ours.0, rw b.fronts (still_ours n m (pending_more (length (bytes_of m old.image ++ take count piece)) piece) old.fronts (λ x. refl) ours.1))
 
 pub synced_ours : (n m : Name) (old new : Told) → Synced m old new → IsOurs n old → IsOurs n new
-synced_ours n m old new b ours = (rw b.image ours.0, rw b.fronts (still_ours n m (all_safe (bytes_of m old.image)) old.fronts (λ x. refl) ours.1))
+synced_ours n m old new b ours = (rw b.image ours.0, rw b.fronts (still_ours n m (all_synced (bytes_of m old.image)) old.fronts (λ x. refl) ours.1))
 
 pub cut_ours : (n m : Name) (len : ℕ) (old new : Told) → Cut m len old new → IsOurs n old → IsOurs n new
 cut_ours n m len old new b ours = (rw (b.image, there-changed) ours.0, rw b.fronts ours.1)

@@ -53,7 +53,7 @@ left_since t from Q each image (k, low, high, left) = each k low high image left
 -- Of a disk that is synced whole a stop leaves the image as it reads.
 
 kept_whole : (bytes left : List ℕ) → Keeps (front_of bytes) left → left ≡ bytes
-kept_whole bytes left k = sym (take_all (length bytes) left k.no_longer) ∙ k.safe
+kept_whole bytes left k = sym (take_all (length bytes) left k.no_longer) ∙ k.synced
 
 leaves_synced : (image left : Image) → MayLeave (map (λ e. (e.0, front_of e.1)) image) left → left ≡ image
 leaves_synced [] [] h = refl

@@ -16,31 +16,31 @@ pub record Becomes (edit : Image → Image) (step : Table Front → Table Front)
   pub image : new.image ≡ edit old.image
   pub fronts : new.fronts ≡ step old.fronts
   pub asked : new.asked ≡ old.asked
-  pub astray : new.astray ≡ old.astray
+  pub stray_views : new.stray_views ≡ old.stray_views
 
 -- bytes were handed to a file that then had this length
-abbrev pub handed_more : ℕ → List ℕ → Front → Front
-handed_more len bytes f = record { safe = f.safe; reach = max f.reach len; handed = f.handed ++ bytes; lent = f.lent }
+abbrev pub pending_more : ℕ → List ℕ → Front → Front
+pending_more len bytes f = record { synced = f.synced; longest = max f.longest len; pending = f.pending ++ bytes; lent = f.lent }
 
 -- these bytes are synced
-abbrev pub all_safe : List ℕ → Front → Front
-all_safe bytes f = record { safe = bytes; reach = length bytes; handed = []; lent = f.lent }
+abbrev pub all_synced : List ℕ → Front → Front
+all_synced bytes f = record { synced = bytes; longest = length bytes; pending = []; lent = f.lent }
 
 -- a new file
 abbrev pub fresh : Bool → Front
-fresh is_lent = record { safe = []; reach = 0; handed = []; lent = is_lent }
+fresh is_lent = record { synced = []; longest = 0; pending = []; lent = is_lent }
 
 -- a lent file came back with these bytes
 abbrev pub brought_back : List ℕ → Front → Front
-brought_back bytes f = record { safe = bytes; reach = length bytes; handed = []; lent = false }
+brought_back bytes f = record { synced = bytes; longest = length bytes; pending = []; lent = false }
 
 -- the first n bytes of a piece got through; all of it was handed
 abbrev pub Appended : Name → ℕ → List ℕ → Told → Told → Type 0
 Appended name n piece old new =
-    Becomes (changed name (λ b. b ++ take n piece)) (changed name (handed_more (length (bytes_of name old.image ++ take n piece)) piece)) old new
+    Becomes (changed name (λ b. b ++ take n piece)) (changed name (pending_more (length (bytes_of name old.image ++ take n piece)) piece)) old new
 
 abbrev pub Synced : Name → Told → Told → Type 0
-Synced name old new = Becomes (λ image. image) (changed name (all_safe (bytes_of name old.image))) old new
+Synced name old new = Becomes (λ image. image) (changed name (all_synced (bytes_of name old.image))) old new
 
 -- a stop knows nothing of a cut
 abbrev pub Cut : Name → ℕ → Told → Told → Type 0
@@ -65,5 +65,5 @@ viewed made n from size t = record {
   past = t.past;
   fronts = t.fronts;
   asked = cond made (t.asked ++ record { name = n; len = size } ∷ []) t.asked;
-  astray = bumped (not (is_within n from size t.image)) t.astray;
+  stray_views = bumped (not (is_within n from size t.image)) t.stray_views;
 }

@@ -1,8 +1,8 @@
 -- Counts of faults, and the causes of a refusal.
 use Rattle.std.specs.Prelude.{ℕ, ◌+◌, ◌≤◌, min, Bool, cond, Result, OnErr, IsErrOf}
-use Rattle.bk_disk.specs.declared.failures.Failed.{Failed}
-use Rattle.bk_disk.specs.declared.failures.DiskError.{DiskError}
-use Rattle.bk_disk.specs.declared.failures.DiskError.TheVariants.{Failed as failed}
+use Rattle.bk_disk.specs.declared.errors.Failed.{Failed}
+use Rattle.bk_disk.specs.declared.errors.DiskError.{DiskError}
+use Rattle.bk_disk.specs.declared.errors.DiskError.TheVariants.{Failed as failed}
 
 -- the last value of a count, at which it stays: 2^64 - 1
 abbrev pub most : ℕ

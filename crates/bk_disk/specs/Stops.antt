@@ -8,9 +8,9 @@ AreOctets bytes = (i : ℕ) → get_or bytes i 0 < 256
 -- A stop leaves the synced bytes, and past them any bytes up to the greatest length that the file
 -- had since its last good sync.
 pub record Keeps (f : Front) (bytes : List ℕ) : Type 0 where
-  pub safe : take (length f.safe) bytes ≡ f.safe
-  pub no_shorter : length f.safe ≤ length bytes
-  pub no_longer : length bytes ≤ f.reach
+  pub synced : take (length f.synced) bytes ≡ f.synced
+  pub no_shorter : length f.synced ≤ length bytes
+  pub no_longer : length bytes ≤ f.longest
 
 -- a lent file holds any bytes after a stop
 pub record FileMayLeave (f : Front) (bytes : List ℕ) : Type 0 where
@@ -42,7 +42,7 @@ MayLeaveSince t from image = (k : ℕ) × (from ≤ k) × (k ≤ clock t) × May
 
 -- a file that is synced whole
 abbrev pub front_of : List ℕ → Front
-front_of bytes = record { safe = bytes; reach = length bytes; handed = []; lent = false }
+front_of bytes = record { synced = bytes; longest = length bytes; pending = []; lent = false }
 
 -- no file has an unsynced part, and none is lent
 abbrev pub IsSynced : Told → Type 0

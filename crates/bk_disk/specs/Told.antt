@@ -52,11 +52,11 @@ Image = Table (List ℕ)
 -- how a stop sees a file
 pub record Front : Type 0 where
   -- its synced bytes
-  pub safe : List ℕ
+  pub synced : List ℕ
   -- the greatest length that it had since its last good sync
-  pub reach : ℕ
+  pub longest : ℕ
   -- all bytes handed to `append` since then, those of a failed append and those cut away included
-  pub handed : List ℕ
+  pub pending : List ℕ
   -- it is lent and not brought back
   pub lent : Bool
 
@@ -70,7 +70,7 @@ pub record Told : Type 0 where
   -- each view that was made, with its length
   pub asked : List Listed
   -- how often a view was asked for past the end of a file, or of a name that isn't there
-  pub astray : ℕ
+  pub stray_views : ℕ
 
 -- each name stands once, and the files and the fronts have the same names
 pub record IsWell (t : Told) : Type 0 where
@@ -110,7 +110,7 @@ IsOneThere from to image = is_some (at image from) ≡ not (is_some (at image to
 -- a cut to this length keeps the synced bytes and is no longer than the file
 pub record CutsWithin (n : Name) (len : ℕ) (t : Told) : Type 0 where
   pub inside : len ≤ length (bytes_of n t.image)
-  pub keeps : IfSome (at t.fronts n) (λ f. length f.safe ≤ len)
+  pub keeps : IfSome (at t.fronts n) (λ f. length f.synced ≤ len)
 
 abbrev pub is_within : Name → ℕ → ℕ → Image → Bool
 is_within n from len image = is_some (at image n) && nat_le (from + len) (length (bytes_of n image))
@@ -123,7 +123,7 @@ range_of n from len image = take len (drop from (bytes_of n image))
 
 -- what stands in the place of the content where it isn't told
 abbrev pub nothing_told : Told
-nothing_told = record { image = []; past = []; fronts = []; asked = []; astray = 0 }
+nothing_told = record { image = []; past = []; fronts = []; asked = []; stray_views = 0 }
 
 -- what is promised where the content is told holds of an object that tells nothing
 pub untold : {A : Type 0} → IsTrue false → A

@@ -5,7 +5,7 @@ ghost use Rattle.bk_disk.specs.Names.{same};
 ghost use Rattle.bk_disk.specs.Told.{Told, listing, bytes_of, IsOurs, IsLent, IsAbsent, IsOneThere, CutsWithin, IsWithin, range_of, IsWell};
 ghost use Rattle.bk_disk.specs.Calls.{Appended, Synced, Made, Cut, Removed, Renamed, Returned, viewed};
 
-use crate::failures::{DiskError, Failed};
+use crate::errors::{DiskError, Failed};
 use crate::outs::Out;
 use crate::views::View;
 use bk_base::{Memory, Name};
@@ -21,7 +21,7 @@ pub struct Listed {
 /// holds, what a stop may leave of it now and at each moment before, and what was asked of it.
 /// A moment is the time between two changes that a stop can tell.
 ///
-/// The disk keeps its allocator. `Memory` is want of memory, and what is told stays as it was.
+/// The disk keeps its allocator. `Memory` is out of memory, and what is told stays as it was.
 pub trait Disk {
     ghost use Rattle.bk_base.specs.declared.names.Name.{Name};
 
@@ -41,11 +41,11 @@ pub trait Disk {
     /// How often a call has failed.
     ghost faults: { Self → ℕ };
 
-    /// How many weak views were made.
-    ghost weak_views: { Self → ℕ };
+    /// How many fallible views were made.
+    ghost fallible_views: { Self → ℕ };
 
-    /// How many weak files were lent.
-    ghost weak_outs: { Self → ℕ };
+    /// How many fallible files were lent.
+    ghost fallible_outs: { Self → ℕ };
 
     /// All files with their lengths, each once.
     fn list(&mut self) -> Result<Vec<Listed>, DiskError>
@@ -53,8 +53,8 @@ pub trait Disk {
         ensures told { IsTrue tells → told self.new ≡ told self.old }
         ensures rooms { (n : Name) → room self.old n ≤ room self.new n }
         ensures cause { HasCause (faults self.old) (faults self.new) result }
-        ensures views { weak_views self.new ≡ weak_views self.old }
-        ensures outs { weak_outs self.new ≡ weak_outs self.old };
+        ensures views { fallible_views self.new ≡ fallible_views self.old }
+        ensures outs { fallible_outs self.new ≡ fallible_outs self.old };
 
     /// A view of `len` bytes of a file from `at` on, as they are now. A range past the file's end,
     /// or of a name that isn't there, is `Failed`.
@@ -67,10 +67,10 @@ pub trait Disk {
         ensures memory { IsTrue tells → IsErrOf result DiskError.Memory → told self.new ≡ told self.old }
         ensures rooms { (n : Name) → room self.old n ≤ room self.new n }
         ensures cause { HasCause (faults self.old) (faults self.new) result }
-        ensures views { IfOk result (λ v. weak_views self.new
-            ≡ bumped (Self.View.weak v) (weak_views self.old)) }
-        ensures no_view { OnErr result (weak_views self.new ≡ weak_views self.old) }
-        ensures outs { weak_outs self.new ≡ weak_outs self.old };
+        ensures views { IfOk result (λ v. fallible_views self.new
+            ≡ bumped (Self.View.fallible v) (fallible_views self.old)) }
+        ensures no_view { OnErr result (fallible_views self.new ≡ fallible_views self.old) }
+        ensures outs { fallible_outs self.new ≡ fallible_outs self.old };
 
     /// Makes an empty file, where the name isn't there. After `Failed` it is made or not.
     fn create(&mut self, name: Name) -> Result<(), DiskError>
@@ -81,8 +81,8 @@ pub trait Disk {
         ensures memory { IsTrue tells → IsErrOf result DiskError.Memory → told self.new ≡ told self.old }
         ensures rooms { (n : Name) → room self.old n ≤ room self.new n }
         ensures cause { HasCause (faults self.old) (faults self.new) result }
-        ensures views { weak_views self.new ≡ weak_views self.old }
-        ensures outs { weak_outs self.new ≡ weak_outs self.old };
+        ensures views { fallible_views self.new ≡ fallible_views self.old }
+        ensures outs { fallible_outs self.new ≡ fallible_outs self.old };
 
     /// Makes a file's room at least `bytes`, and changes nothing else.
     fn ready(&mut self, name: Name, bytes: u64) -> Result<(), Memory>
@@ -92,8 +92,8 @@ pub trait Disk {
         ensures told { IsTrue tells → told self.new ≡ told self.old }
         ensures rooms { (n : Name) → room self.old n ≤ room self.new n }
         ensures faults { faults self.new ≡ faults self.old }
-        ensures views { weak_views self.new ≡ weak_views self.old }
-        ensures outs { weak_outs self.new ≡ weak_outs self.old };
+        ensures views { fallible_views self.new ≡ fallible_views self.old }
+        ensures outs { fallible_outs self.new ≡ fallible_outs self.old };
 
     /// Appends a piece that isn't longer than the file's room. After `Failed` a first part of it,
     /// from none to all of it, stands at the end.
@@ -106,8 +106,8 @@ pub trait Disk {
             (told self.old) (told self.new)) }
         ensures rooms { (n : Name) → same n name ≡ false → room self.old n ≤ room self.new n }
         ensures cause { IsCaused (faults self.old) (faults self.new) result }
-        ensures views { weak_views self.new ≡ weak_views self.old }
-        ensures outs { weak_outs self.new ≡ weak_outs self.old };
+        ensures views { fallible_views self.new ≡ fallible_views self.old }
+        ensures outs { fallible_outs self.new ≡ fallible_outs self.old };
 
     /// Cuts a file to a length between its synced length and its length. After `Failed` it is done
     /// or not. Until the next sync a stop may undo it.
@@ -119,8 +119,8 @@ pub trait Disk {
             ⊎ Cut name len (told self.old) (told self.new)) }
         ensures rooms { (n : Name) → room self.old n ≤ room self.new n }
         ensures cause { IsCaused (faults self.old) (faults self.new) result }
-        ensures views { weak_views self.new ≡ weak_views self.old }
-        ensures outs { weak_outs self.new ≡ weak_outs self.old };
+        ensures views { fallible_views self.new ≡ fallible_views self.old }
+        ensures outs { fallible_outs self.new ≡ fallible_outs self.old };
 
     /// Syncs a file: a stop leaves all its bytes. A sync that fails changes nothing.
     fn sync(&mut self, name: Name) -> Result<(), Failed>
@@ -129,8 +129,8 @@ pub trait Disk {
         ensures err { IsTrue tells → OnErr result (told self.new ≡ told self.old) }
         ensures rooms { (n : Name) → room self.old n ≤ room self.new n }
         ensures cause { IsCaused (faults self.old) (faults self.new) result }
-        ensures views { weak_views self.new ≡ weak_views self.old }
-        ensures outs { weak_outs self.new ≡ weak_outs self.old };
+        ensures views { fallible_views self.new ≡ fallible_views self.old }
+        ensures outs { fallible_outs self.new ≡ fallible_outs self.old };
 
     /// Makes a new file, to be written elsewhere and brought back by `adopt`. Until then it reads
     /// as empty here, and a stop may leave any bytes of it. After `Failed` the name is lent or
@@ -146,10 +146,10 @@ pub trait Disk {
         ensures memory { IsTrue tells → IsErrOf result DiskError.Memory → told self.new ≡ told self.old }
         ensures rooms { (n : Name) → room self.old n ≤ room self.new n }
         ensures cause { HasCause (faults self.old) (faults self.new) result }
-        ensures views { weak_views self.new ≡ weak_views self.old }
-        ensures outs { IfOk result (λ out. weak_outs self.new
-            ≡ bumped (Self.Out.weak out) (weak_outs self.old)) }
-        ensures no_out { OnErr result (weak_outs self.new ≡ weak_outs self.old) };
+        ensures views { fallible_views self.new ≡ fallible_views self.old }
+        ensures outs { IfOk result (λ out. fallible_outs self.new
+            ≡ bumped (Self.Out.fallible out) (fallible_outs self.old)) }
+        ensures no_out { OnErr result (fallible_outs self.new ≡ fallible_outs self.old) };
 
     /// Takes a file back that was lent under its name and is synced whole. It takes no memory and
     /// can't fail.
@@ -160,8 +160,8 @@ pub trait Disk {
             (told self.old) (told self.new) }
         ensures rooms { (n : Name) → room self.old n ≤ room self.new n }
         ensures faults { faults self.new ≡ faults self.old }
-        ensures views { weak_views self.new ≡ weak_views self.old }
-        ensures outs { weak_outs self.new ≡ weak_outs self.old };
+        ensures views { fallible_views self.new ≡ fallible_views self.old }
+        ensures outs { fallible_outs self.new ≡ fallible_outs self.old };
 
     /// Gives a file another name, where exactly one of the two is there; where that is `to` already,
     /// it changes nothing. After `Failed` it is done or not.
@@ -174,8 +174,8 @@ pub trait Disk {
         ensures rooms { (n : Name) → same n from ≡ false → same n to ≡ false
             → room self.old n ≤ room self.new n }
         ensures cause { HasCause (faults self.old) (faults self.new) result }
-        ensures views { weak_views self.new ≡ weak_views self.old }
-        ensures outs { weak_outs self.new ≡ weak_outs self.old };
+        ensures views { fallible_views self.new ≡ fallible_views self.old }
+        ensures outs { fallible_outs self.new ≡ fallible_outs self.old };
 
     /// Removes a file, if it is there. A lent name that was removed is lent no more. After `Failed`
     /// it is done or not.
@@ -186,8 +186,8 @@ pub trait Disk {
         ensures memory { IsTrue tells → IsErrOf result DiskError.Memory → told self.new ≡ told self.old }
         ensures rooms { (n : Name) → same n name ≡ false → room self.old n ≤ room self.new n }
         ensures cause { HasCause (faults self.old) (faults self.new) result }
-        ensures views { weak_views self.new ≡ weak_views self.old }
-        ensures outs { weak_outs self.new ≡ weak_outs self.old };
+        ensures views { fallible_views self.new ≡ fallible_views self.old }
+        ensures outs { fallible_outs self.new ≡ fallible_outs self.old };
 
     /// Each name stands once in what is told.
     ghost well: { (d : Self) → IsTrue tells → IsWell (told d) };

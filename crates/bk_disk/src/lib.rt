@@ -7,7 +7,7 @@
 
 mod clocks;
 mod disks;
-mod failures;
+mod errors;
 mod outs;
 mod sinks;
 mod sources;
@@ -18,7 +18,7 @@ mod views;
 pub use bk_base::Memory;
 pub use clocks::Clock;
 pub use disks::{Disk, Listed};
-pub use failures::{DiskError, Failed};
+pub use errors::{DiskError, Failed};
 pub use outs::Out;
 pub use sinks::Sink;
 pub use sources::Source;

@@ -2,7 +2,7 @@
 ghost use Rattle.std.specs.Prelude.{◌≡◌, ◌≢◌, ◌++◌, Bool, false, List, ℕ, length, take, IsTrue, IsOk, OnOk, OnErr, IsErrOf};
 ghost use Rattle.bk_disk.specs.Causes.{IsCaused, HasCause};
 
-use crate::failures::{DiskError, Failed};
+use crate::errors::{DiskError, Failed};
 use bk_base::Name;
 
 /// A file under a name of its own, which the disk that lent it takes back by `adopt`.
@@ -24,8 +24,8 @@ pub trait Out {
     /// How often a call has failed.
     ghost faults: { Self → ℕ };
 
-    /// The count of faults may rise: a file that isn't weak never fails.
-    ghost weak: { Self → Bool };
+    /// The count of faults may rise: a file that isn't fallible never fails.
+    ghost fallible: { Self → Bool };
 
     /// Appends the piece. After a refusal a first part of it, from none to all of it, may stand at
     /// the end.
@@ -36,9 +36,9 @@ pub trait Out {
         ensures synced { IsTrue tells → synced self.new ≡ synced self.old }
         ensures name { name self.new ≡ name self.old }
         ensures cause { HasCause (faults self.old) (faults self.new) result }
-        ensures strong { weak self.old ≡ false → ¬ (IsErrOf result DiskError.Failed) }
-        ensures same_faults { weak self.old ≡ false → faults self.new ≡ faults self.old }
-        ensures weak { weak self.new ≡ weak self.old };
+        ensures strong { fallible self.old ≡ false → ¬ (IsErrOf result DiskError.Failed) }
+        ensures same_faults { fallible self.old ≡ false → faults self.new ≡ faults self.old }
+        ensures fallible { fallible self.new ≡ fallible self.old };
 
     /// Syncs all bytes. A sync that fails changes nothing.
     fn sync(&mut self) -> Result<(), Failed>
@@ -47,7 +47,7 @@ pub trait Out {
         ensures bytes { IsTrue tells → bytes self.new ≡ bytes self.old }
         ensures name { name self.new ≡ name self.old }
         ensures cause { IsCaused (faults self.old) (faults self.new) result }
-        ensures strong { weak self.old ≡ false → IsOk result }
-        ensures same_faults { weak self.old ≡ false → faults self.new ≡ faults self.old }
-        ensures weak { weak self.new ≡ weak self.old };
+        ensures strong { fallible self.old ≡ false → IsOk result }
+        ensures same_faults { fallible self.old ≡ false → faults self.new ≡ faults self.old }
+        ensures fallible { fallible self.new ≡ fallible self.old };
 }

@@ -2,7 +2,7 @@
 ghost use Rattle.std.specs.Prelude.{◌≡◌, ◌<◌, ◌≤◌, ◌++◌, Bool, List, ℕ, length, take, IsTrue, IfOk, OnErr};
 ghost use Rattle.bk_disk.specs.Causes.{IsCaused};
 
-use crate::failures::Failed;
+use crate::errors::Failed;
 
 /// An output that is written in pieces.
 pub trait Sink {

@@ -3,7 +3,7 @@ ghost use Rattle.std.specs.Prelude.{◌≡◌, ◌<◌, ◌≤◌, Bool, List, �
 ghost use Rattle.bk_disk.specs.Causes.{IsCaused};
 ghost use Rattle.bk_disk.specs.Streams.{Takes};
 
-use crate::failures::Failed;
+use crate::errors::Failed;
 
 /// An input that is read in pieces.
 pub trait Source {

@@ -24,7 +24,7 @@ impl View for SilentView {
 
     ghost faults = { λ v. v.faults };
 
-    ghost weak = { λ _. true };
+    ghost fallible = { λ _. true };
 
     fn read(&mut self, into: &mut [u8]) -> Result<usize, Failed> {
         if into.len() as u64 >= self.left {
@@ -55,7 +55,7 @@ impl Out for SilentOut {
 
     ghost faults = { λ o. o.faults };
 
-    ghost weak = { λ _. true };
+    ghost fallible = { λ _. true };
 
     fn append(&mut self, _piece: &[u8]) -> Result<(), DiskError> {
         self.faults = self.faults.saturating_add(1);
@@ -71,8 +71,8 @@ impl Out for SilentOut {
 struct SilentDisk {
     alloc: Global,
     faults: u64,
-    weak_views: u64,
-    weak_outs: u64,
+    fallible_views: u64,
+    fallible_outs: u64,
 }
 
 impl Disk for SilentDisk {
@@ -91,9 +91,9 @@ impl Disk for SilentDisk {
 
     ghost faults = { λ d. d.faults };
 
-    ghost weak_views = { λ d. d.weak_views };
+    ghost fallible_views = { λ d. d.fallible_views };
 
-    ghost weak_outs = { λ d. d.weak_outs };
+    ghost fallible_outs = { λ d. d.fallible_outs };
 
     ghost well = { λ _ h. untold h };
 
@@ -106,7 +106,7 @@ impl Disk for SilentDisk {
     }
 
     fn view(&mut self, _name: Name, _at: u64, len: u64) -> Result<SilentView, DiskError> {
-        self.weak_views = self.weak_views.saturating_add(1);
+        self.fallible_views = self.fallible_views.saturating_add(1);
         Ok(SilentView {
             left: len,
             faults: 0,
@@ -135,7 +135,7 @@ impl Disk for SilentDisk {
     }
 
     fn lend(&mut self, name: Name) -> Result<SilentOut, DiskError> {
-        self.weak_outs = self.weak_outs.saturating_add(1);
+        self.fallible_outs = self.fallible_outs.saturating_add(1);
         Ok(SilentOut { name, faults: 0 })
     }
 
@@ -155,7 +155,7 @@ fn store<D: Disk>(disk: &mut D, name: Name, bytes: &[u8]) -> Result<(), DiskErro
     requires { IsTrue D.tells → IsAbsent name (D.told disk.old).image }
     ensures stored { IsTrue D.tells → OnOk result (bytes_of name (D.told disk.new).image ≡ bytes.now) }
     ensures cause { HasCause (D.faults disk.old) (D.faults disk.new) result }
-    ensures views { D.weak_views disk.new ≡ D.weak_views disk.old }
+    ensures views { D.fallible_views disk.new ≡ D.fallible_views disk.old }
 {
     disk.create(name)?;
     disk.ready(name, bytes.len() as u64)?;
@@ -167,7 +167,7 @@ fn store<D: Disk>(disk: &mut D, name: Name, bytes: &[u8]) -> Result<(), DiskErro
 // The first bytes of a file, as many as `into` has.
 fn load<D: Disk>(disk: &mut D, name: Name, into: &mut [u8]) -> Result<usize, DiskError>
     ensures cause { IsErrOf result DiskError.Failed → Rose (D.faults disk.old) (D.faults disk.new)
-        ⊎ Rose (D.weak_views disk.old) (D.weak_views disk.new) }
+        ⊎ Rose (D.fallible_views disk.old) (D.fallible_views disk.new) }
 {
     let mut view = disk.view(name, 0, into.len() as u64)?;
     Ok(view.read(into)?)
@@ -178,8 +178,8 @@ fn a_silent_disk_serves(rt: HostRuntime) {
     let mut disk = SilentDisk {
         alloc: rt.alloc(),
         faults: 0,
-        weak_views: 0,
-        weak_outs: 0,
+        fallible_views: 0,
+        fallible_outs: 0,
     };
     let name = Name {
         id: 1,

@@ -3,7 +3,7 @@ ghost use Rattle.std.specs.Prelude.{◌≡◌, ◌+◌, ◌<◌, ◌≤◌, Bool
 ghost use Rattle.bk_disk.specs.Causes.{IsCaused};
 ghost use Rattle.bk_disk.specs.Streams.{Gives};
 
-use crate::failures::Failed;
+use crate::errors::Failed;
 
 /// A range of a file as it was when the view was made, also after the file's name was removed.
 pub trait View {
@@ -19,8 +19,8 @@ pub trait View {
     /// How often a read has failed.
     ghost faults: { Self → ℕ };
 
-    /// The count of faults may rise: a view that isn't weak never fails.
-    ghost weak: { Self → Bool };
+    /// The count of faults may rise: a view that isn't fallible never fails.
+    ghost fallible: { Self → Bool };
 
     /// Reads the next bytes into the front of `into`, and says how many: at least one while the
     /// range isn't used up and `into` isn't empty, and none at its end. An early end of the file is
@@ -33,7 +33,7 @@ pub trait View {
         ensures kept { OnErr result (rest self.new ≡ rest self.old) }
         ensures kept_bytes { IsTrue tells → OnErr result (left self.new ≡ left self.old) }
         ensures cause { IsCaused (faults self.old) (faults self.new) result }
-        ensures strong { weak self.old ≡ false → IsOk result }
-        ensures same_faults { weak self.old ≡ false → faults self.new ≡ faults self.old }
-        ensures weak { weak self.new ≡ weak self.old };
+        ensures strong { fallible self.old ≡ false → IsOk result }
+        ensures same_faults { fallible self.old ≡ false → faults self.new ≡ faults self.old }
+        ensures fallible { fallible self.new ≡ fallible self.old };
 }

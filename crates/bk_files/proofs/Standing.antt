@@ -12,7 +12,7 @@ use Rattle.bk_base.specs.declared.names.Name.{Name}
 use Rattle.bk_base.specs.declared.rows.Row.{Row}
 use Rattle.bk_disk.specs.Names.{same}
 use Rattle.bk_disk.specs.Told.{Table, Front, Told, at, bytes_of, with_name, IsOurs, IsWell}
-use Rattle.bk_disk.specs.Calls.{Appended, Synced, Cut, Made, all_safe, fresh, handed_more, viewed}
+use Rattle.bk_disk.specs.Calls.{Appended, Synced, Cut, Made, all_synced, fresh, pending_more, viewed}
 use Rattle.bk_disk.proofs.Names.{same_eq}
 use Rattle.bk_disk.proofs.Files.{appended_ours, appended_bytes, appended_whole, bytes_of-changed_other, cut_bytes, cut_ours, made_bytes, made_ours, synced_ours, there_in_both}
 use Rattle.bk_disk.proofs.Tables.{at-changed, at-changed_other, at-with_name}
@@ -24,7 +24,7 @@ use Rattle.bk_files.specs.Files.{IsActive, IsUnused, Stands, StandsFor}
 use Rattle.bk_files.proofs.Rows.{kept_appended, kept_cut, kept_made, kept_synced, made_at, made_front, rows_begun, rows_counted, rows_grown, rows_kept, rows_sealed, rows_still}
 
 abbrev IsSafeTo : ℕ → Option Front → Type 0
-IsSafeTo len o = IfSome o (λ f. length f.safe ≤ len)
+IsSafeTo len o = IfSome o (λ f. length f.synced ≤ len)
 
 other : (i j : ℕ) → i < j → same (main j) (main i) ≡ false
 unfolding same
@@ -37,7 +37,7 @@ other_back i j h = grind (arith, h)
 -- A name that a call leaves alone
 
 unused_same : (n : Name) (t u : Told) → bytes_of n u.image ≡ bytes_of n t.image → at u.fronts n ≡ at t.fronts n → IsUnused n t → IsUnused n u
-unused_same n t u bytes front w = record { empty = bytes ∙ w.empty; front = subst (λ o. IfSome o (λ f. (f.lent ≡ false) × (f.safe ≡ []))) (sym front) w.front }
+unused_same n t u bytes front w = record { empty = bytes ∙ w.empty; front = subst (λ o. IfSome o (λ f. (f.lent ≡ false) × (f.synced ≡ []))) (sym front) w.front }
 
 active_same : (n : Name) (a : Active) (t u : Told) → at u.image n ≡ at t.image n → at u.fronts n ≡ at t.fronts n → IsActive n a t → IsActive n a u
 active_same n a t u image front w =
@@ -46,13 +46,13 @@ active_same n a t u image front w =
       ours = (subst (λ (o : Option (List ℕ)). IsSome o) (sym image) w.ours.0, subst (λ (o : Option Front). IsSomeAnd o (λ f. f.lent ≡ false)) (sym front) w.ours.1);
       known = λ whole. ap length bytes ∙ w.known whole;
       inside = omega (arith, ap length bytes, w.inside);
-      safe = subst (λ o. IsSafeTo a.len o) (sym front) w.safe;
+      synced = subst (λ o. IsSafeTo a.len o) (sym front) w.synced;
     }
 
 unused_appended : (n m : Name) (k : ℕ) (piece : List ℕ) (t u : Told) → same m n ≡ false → Appended n k piece t u → IsUnused m t → IsUnused m u
 unused_appended n m k piece t u h b w = unused_same m t u
     (ap (λ i. bytes_of m i) b.image ∙ bytes_of-changed_other n m (λ bytes. bytes ++ take k piece) t.image h)
-    (ap (λ fs. at fs m) b.fronts ∙ at-changed_other n m (handed_more (length (bytes_of n t.image ++ take k piece)) piece) t.fronts h) w
+    (ap (λ fs. at fs m) b.fronts ∙ at-changed_other n m (pending_more (length (bytes_of n t.image ++ take k piece)) piece) t.fronts h) w
 
 unused_cut : (n m : Name) (len : ℕ) (t u : Told) → same m n ≡ false → Cut n len t u → IsUnused m t → IsUnused m u
 unused_cut n m len t u h b w = unused_same m t u
@@ -62,23 +62,23 @@ unused_cut n m len t u h b w = unused_same m t u
 unused_synced : (n m : Name) (t u : Told) → same m n ≡ false → Synced n t u → IsUnused m t → IsUnused m u
 unused_synced n m t u h b w = unused_same m t u
     (ap (λ i. bytes_of m i) b.image)
-    (ap (λ fs. at fs m) b.fronts ∙ at-changed_other n m (all_safe (bytes_of n t.image)) t.fronts h) w
+    (ap (λ fs. at fs m) b.fronts ∙ at-changed_other n m (all_synced (bytes_of n t.image)) t.fronts h) w
 
 unused_made : (n m : Name) (t u : Told) → same m n ≡ false → Made n false t u → IsUnused m t → IsUnused m u
 unused_made n m t u h b w = unused_same m t u (rw (made_at n m t u h b) refl) (made_front n m t u h b) w
 
 -- The active file after each call on it
 
-safe_after : (o : Option Front) (g : Front → Front) (len more : ℕ) → ((f : Front) → (g f).safe ≡ f.safe) → len ≤ more → IsSafeTo len o → IsSafeTo more (option_map g o)
+safe_after : (o : Option Front) (g : Front → Front) (len more : ℕ) → ((f : Front) → (g f).synced ≡ f.synced) → len ≤ more → IsSafeTo len o → IsSafeTo more (option_map g o)
 safe_after None g len more keeps le h = tt
 safe_after (Some f) g len more keeps le h = omega (arith, ap length (keeps f), le, h)
 
-safe_synced : (o : Option Front) (bytes : List ℕ) (len : ℕ) → length bytes ≡ len → IsSafeTo len (option_map (all_safe bytes) o)
+safe_synced : (o : Option Front) (bytes : List ℕ) (len : ℕ) → length bytes ≡ len → IsSafeTo len (option_map (all_synced bytes) o)
 safe_synced None bytes len h = tt
 safe_synced (Some f) bytes len h = omega (arith, h)
 
-appended_front : (n : Name) (k : ℕ) (piece : List ℕ) (t u : Told) → Appended n k piece t u → at u.fronts n ≡ option_map (handed_more (length (bytes_of n t.image ++ take k piece)) piece) (at t.fronts n)
-appended_front n k piece t u b = ap (λ fs. at fs n) b.fronts ∙ at-changed n (handed_more (length (bytes_of n t.image ++ take k piece)) piece) t.fronts
+appended_front : (n : Name) (k : ℕ) (piece : List ℕ) (t u : Told) → Appended n k piece t u → at u.fronts n ≡ option_map (pending_more (length (bytes_of n t.image ++ take k piece)) piece) (at t.fronts n)
+appended_front n k piece t u b = ap (λ fs. at fs n) b.fronts ∙ at-changed n (pending_more (length (bytes_of n t.image ++ take k piece)) piece) t.fronts
 
 active_appended : (n : Name) (a : Active) (piece : List ℕ) (t u : Told) → a.torn ≡ false → Appended n (length piece) piece t u → IsActive n a t
     → IsActive n (record { len = a.len + length piece; torn = false }) u
@@ -89,8 +89,8 @@ active_appended n a piece t u whole b w =
       ours = appended_ours n n (length piece) piece t u b w.ours;
       known = λ _. long;
       inside = omega (arith, long);
-      safe = subst (λ o. IsSafeTo (a.len + length piece) o) (sym (appended_front n (length piece) piece t u b))
-          (safe_after (at t.fronts n) _ a.len (a.len + length piece) (λ f. refl) (omega arith) w.safe);
+      synced = subst (λ o. IsSafeTo (a.len + length piece) o) (sym (appended_front n (length piece) piece t u b))
+          (safe_after (at t.fronts n) _ a.len (a.len + length piece) (λ f. refl) (omega arith) w.synced);
     }
 
 active_torn : (n : Name) (a : Active) (k : ℕ) (piece : List ℕ) (t u : Told) → Appended n k piece t u → IsActive n a t → IsActive n (record { len = a.len; torn = true }) u
@@ -98,7 +98,7 @@ active_torn n a k piece t u b w = record {
   ours = appended_ours n n k piece t u b w.ours;
   known = λ whole. absurd (true≢false whole);
   inside = omega (arith, ap length (appended_bytes n k piece t u w.ours b), length-append (bytes_of n t.image) (take k piece), w.inside);
-  safe = subst (λ o. IsSafeTo a.len o) (sym (appended_front n k piece t u b)) (safe_after (at t.fronts n) _ a.len a.len (λ f. refl) (omega arith) w.safe);
+  synced = subst (λ o. IsSafeTo a.len o) (sym (appended_front n k piece t u b)) (safe_after (at t.fronts n) _ a.len a.len (λ f. refl) (omega arith) w.synced);
 }
 
 cut_len : (n : Name) (a : Active) (t u : Told) → Cut n a.len t u → IsActive n a t → length (bytes_of n u.image) ≡ a.len
@@ -111,7 +111,7 @@ active_cut n a t u b w =
       ours = cut_ours n n a.len t u b w.ours;
       known = λ _. long;
       inside = omega (arith, long);
-      safe = subst (λ fs. IsSafeTo a.len (at fs n)) (sym b.fronts) w.safe;
+      synced = subst (λ fs. IsSafeTo a.len (at fs n)) (sym b.fronts) w.synced;
     }
 
 active_synced : (n : Name) (a : Active) (torn : Bool) (t u : Told) → length (bytes_of n t.image) ≡ a.len → Synced n t u → IsActive n a t
@@ -123,7 +123,7 @@ active_synced n a torn t u long b w =
       ours = synced_ours n n t u b w.ours;
       known = λ _. still;
       inside = omega (arith, still);
-      safe = subst (λ o. IsSafeTo a.len o) (sym (ap (λ fs. at fs n) b.fronts ∙ at-changed n (all_safe (bytes_of n t.image)) t.fronts))
+      synced = subst (λ o. IsSafeTo a.len o) (sym (ap (λ fs. at fs n) b.fronts ∙ at-changed n (all_synced (bytes_of n t.image)) t.fronts))
           (safe_synced (at t.fronts n) (bytes_of n t.image) a.len long);
     }
 
@@ -132,11 +132,11 @@ active_synced n a torn t u long b w =
 abbrev empty : Active
 empty = record { len = 0; torn = false }
 
-ours_of : (o : Option Front) → is_some o ≡ true → IfSome o (λ f. (f.lent ≡ false) × (f.safe ≡ [])) → IsSomeAnd o (λ f. f.lent ≡ false)
+ours_of : (o : Option Front) → is_some o ≡ true → IfSome o (λ f. (f.lent ≡ false) × (f.synced ≡ [])) → IsSomeAnd o (λ f. f.lent ≡ false)
 ours_of None h w = absurd (true≢false (sym h))
 ours_of (Some f) h w = w.0
 
-safe_of_free : (o : Option Front) → IfSome o (λ f. (f.lent ≡ false) × (f.safe ≡ [])) → IsSafeTo 0 o
+safe_of_free : (o : Option Front) → IfSome o (λ f. (f.lent ≡ false) × (f.synced ≡ [])) → IsSafeTo 0 o
 safe_of_free None w = tt
 safe_of_free (Some f) w = omega (arith, ap length w.1)
 
@@ -154,7 +154,7 @@ active_made n t u well b w =
             ours = (there, ours_of (at t.fronts n) here w.front);
             known = λ _. ap length w.empty;
             inside = omega arith;
-            safe = safe_of_free (at t.fronts n) w.front;
+            synced = safe_of_free (at t.fronts n) w.front;
           })
       | inr absent ↦
           let nowhere : is_some (at t.fronts n) ≡ false = there_in_both t n well ∙ absent in
@@ -162,7 +162,7 @@ active_made n t u well b w =
             ours = made_ours n t u well absent b;
             known = λ _. ap length (made_bytes n false t u absent b);
             inside = omega arith;
-            safe = subst (λ o. IsSafeTo 0 o) (sym (ap (λ fs. at fs n) b.fronts ∙ at-with_name n (fresh false) t.fronts nowhere)) (omega arith);
+            synced = subst (λ o. IsSafeTo 0 o) (sym (ap (λ fs. at fs n) b.fronts ∙ at-with_name n (fresh false) t.fronts nowhere)) (omega arith);
           }
     ]
 
@@ -170,12 +170,12 @@ none_of : (l : List ℕ) → length l ≤ 0 → l ≡ []
 none_of [] h = refl
 none_of (x ∷ xs) h = absurd (omega (arith, h))
 
-free_of : (o : Option Front) → IsSomeAnd o (λ f. f.lent ≡ false) → IsSafeTo 0 o → IfSome o (λ f. (f.lent ≡ false) × (f.safe ≡ []))
+free_of : (o : Option Front) → IsSomeAnd o (λ f. f.lent ≡ false) → IsSafeTo 0 o → IfSome o (λ f. (f.lent ≡ false) × (f.synced ≡ []))
 free_of None h s = tt
-free_of (Some f) h s = (h, none_of f.safe s)
+free_of (Some f) h s = (h, none_of f.synced s)
 
 unused_of : (n : Name) (t : Told) → IsActive n empty t → IsUnused n t
-unused_of n t w = record { empty = none_of (bytes_of n t.image) (omega (arith, w.known refl)); front = free_of (at t.fronts n) w.ours.1 w.safe }
+unused_of n t w = record { empty = none_of (bytes_of n t.image) (omega (arith, w.known refl)); front = free_of (at t.fronts n) w.ours.1 w.synced }
 
 -- All of it
 
@@ -193,7 +193,7 @@ stands_fresh last rows t well free made = record {
   none_at None h = refl
   none_at (Some x) h = absurd (true≢false h)
 
-  no_front : (o : Option Front) → is_some o ≡ false → IfSome o (λ f. (f.lent ≡ false) × (f.safe ≡ []))
+  no_front : (o : Option Front) → is_some o ≡ false → IfSome o (λ f. (f.lent ≡ false) × (f.synced ≡ []))
   no_front None h = tt
   no_front (Some f) h = absurd (true≢false h)
 

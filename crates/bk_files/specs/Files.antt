@@ -15,12 +15,12 @@ pub record IsActive (n : Name) (a : Active) (t : Told) : Type 0 where
   pub ours : IsOurs n t
   pub known : a.torn ≡ false → length (bytes_of n t.image) ≡ a.len
   pub inside : a.len ≤ length (bytes_of n t.image)
-  pub safe : IfSome (at t.fronts n) (λ f. length f.safe ≤ a.len)
+  pub synced : IfSome (at t.fronts n) (λ f. length f.synced ≤ a.len)
 
 -- the name isn't there, or a refused roll has left an empty file under it
 pub record IsUnused (n : Name) (t : Told) : Type 0 where
   pub empty : bytes_of n t.image ≡ []
-  pub front : IfSome (at t.fronts n) (λ f. (f.lent ≡ false) × (f.safe ≡ []))
+  pub front : IfSome (at t.fronts n) (λ f. (f.lent ≡ false) × (f.synced ≡ []))
 
 -- what holds of the active file, of the names of files to come, and of the rows
 pub record StandsFor (active : Option Active) (last : ℕ) (rows : List Row) (t : Told) : Type 0 where

@@ -1,5 +1,5 @@
 pub mod Catalog
 pub mod Rows
 pub mod Files
-pub mod Refusal
+pub mod Errors
 pub mod Scan

@@ -70,12 +70,12 @@ pub record IsTold (tells : Bool) (bytes : List ℕ) (size : ℕ) : Type 0 where
   pub shown : IsTrue tells
   pub whole : length bytes ≡ size
 
--- a view's count of faults doesn't fall, and a read failed only where it rose and the view is weak
-pub record HasReadCause {T : Type 0} (before now : ℕ) (was_weak is_weak : Bool) (result : Result T ScanError)
+-- a view's count of faults doesn't fall, and a read failed only where it rose and the view is fallible
+pub record HasReadCause {T : Type 0} (before now : ℕ) (was_fallible is_fallible : Bool) (result : Result T ScanError)
     : Type 0 where
   pub later : before ≤ now
-  pub weak : is_weak ≡ was_weak
-  pub failed : IsErrOf result Read → Rose before now × (was_weak ≡ true)
+  pub fallible : is_fallible ≡ was_fallible
+  pub failed : IsErrOf result Read → Rose before now × (was_fallible ≡ true)
 
 -- The first records of the text are those of these writes, they end at this place, and the rest follows.
 pub record AreFirst (text : List ℕ) (writes : List Write) (end : ℕ) (rest : List ℕ) : Type 0 where

@@ -9,7 +9,7 @@ ghost use Rattle.bk_files.specs.Rows.{AreSealed, IsRecord};
 ghost use Rattle.bk_files.specs.Files.{HalfRepaired, HalfRolled, Repaired, Rolled, Settled, Stands, Synchronized};
 
 use crate::catalog::{Active, Catalog, name_of};
-use crate::refusals::RollError;
+use crate::errors::RollError;
 use bk_base::{FileId, Memory, Row};
 use bk_disk::{Disk, DiskError, Failed};
 
@@ -70,8 +70,8 @@ impl<D: Disk> Files<D> {
             (HalfRepaired self.old.catalog (D.told self.old.disk) (D.told self.new.disk)) }
         ensures stands { IsTrue D.tells → Stands self.new.catalog (D.told self.new.disk) }
         ensures cause { IsCaused (D.faults self.old.disk) (D.faults self.new.disk) result }
-        ensures views { D.weak_views self.new.disk ≡ D.weak_views self.old.disk }
-        ensures outs { D.weak_outs self.new.disk ≡ D.weak_outs self.old.disk }
+        ensures views { D.fallible_views self.new.disk ≡ D.fallible_views self.old.disk }
+        ensures outs { D.fallible_outs self.new.disk ≡ D.fallible_outs self.old.disk }
     {
         let Some(active) = self.catalog.active else {
             return Ok(());
@@ -99,8 +99,8 @@ impl<D: Disk> Files<D> {
         ensures told { IsTrue D.tells → D.told self.new.disk ≡ D.told self.old.disk }
         ensures stands { IsTrue D.tells → Stands self.new.catalog (D.told self.new.disk) }
         ensures faults { D.faults self.new.disk ≡ D.faults self.old.disk }
-        ensures views { D.weak_views self.new.disk ≡ D.weak_views self.old.disk }
-        ensures outs { D.weak_outs self.new.disk ≡ D.weak_outs self.old.disk }
+        ensures views { D.fallible_views self.new.disk ≡ D.fallible_views self.old.disk }
+        ensures outs { D.fallible_outs self.new.disk ≡ D.fallible_outs self.old.disk }
     {
         if self.catalog.is_due(size) {
             return Ok(());
@@ -129,8 +129,8 @@ impl<D: Disk> Files<D> {
             (D.told self.old.disk) (D.told self.new.disk)) }
         ensures stands { IsTrue D.tells → Stands self.new.catalog (D.told self.new.disk) }
         ensures cause { IsCaused (D.faults self.old.disk) (D.faults self.new.disk) result }
-        ensures views { D.weak_views self.new.disk ≡ D.weak_views self.old.disk }
-        ensures outs { D.weak_outs self.new.disk ≡ D.weak_outs self.old.disk }
+        ensures views { D.fallible_views self.new.disk ≡ D.fallible_views self.old.disk }
+        ensures outs { D.fallible_outs self.new.disk ≡ D.fallible_outs self.old.disk }
     {
         let name = self.catalog.newest();
         match self.disk.append(name, text) {
@@ -152,8 +152,8 @@ impl<D: Disk> Files<D> {
         ensures err { IsTrue D.tells → OnErr result (D.told self.new.disk ≡ D.told self.old.disk) }
         ensures stands { IsTrue D.tells → Stands self.new.catalog (D.told self.new.disk) }
         ensures cause { IsCaused (D.faults self.old.disk) (D.faults self.new.disk) result }
-        ensures views { D.weak_views self.new.disk ≡ D.weak_views self.old.disk }
-        ensures outs { D.weak_outs self.new.disk ≡ D.weak_outs self.old.disk }
+        ensures views { D.fallible_views self.new.disk ≡ D.fallible_views self.old.disk }
+        ensures outs { D.fallible_outs self.new.disk ≡ D.fallible_outs self.old.disk }
     {
         if self.catalog.active.is_none() {
             return Ok(());
@@ -178,8 +178,8 @@ impl<D: Disk> Files<D> {
             ⊎ Repaired self.old.catalog (D.told self.old.disk) (D.told self.new.disk)) }
         ensures stands { IsTrue D.tells → Stands self.new.catalog (D.told self.new.disk) }
         ensures cause { IsCaused (D.faults self.old.disk) (D.faults self.new.disk) result }
-        ensures views { D.weak_views self.new.disk ≡ D.weak_views self.old.disk }
-        ensures outs { D.weak_outs self.new.disk ≡ D.weak_outs self.old.disk }
+        ensures views { D.fallible_views self.new.disk ≡ D.fallible_views self.old.disk }
+        ensures outs { D.fallible_outs self.new.disk ≡ D.fallible_outs self.old.disk }
     {
         self.repair()?;
         self.settle()?;
@@ -208,8 +208,8 @@ impl<D: Disk> Files<D> {
         ensures later { D.faults self.old.disk ≤ D.faults self.new.disk }
         ensures disk { IsErrOf result RollError.Disk
             → Rose (D.faults self.old.disk) (D.faults self.new.disk) }
-        ensures views { D.weak_views self.new.disk ≡ D.weak_views self.old.disk }
-        ensures outs { D.weak_outs self.new.disk ≡ D.weak_outs self.old.disk }
+        ensures views { D.fallible_views self.new.disk ≡ D.fallible_views self.old.disk }
+        ensures outs { D.fallible_outs self.new.disk ≡ D.fallible_outs self.old.disk }
     {
         if self.catalog.last.0 >= LAST_FILE {
             return Err(RollError::FullFiles);
@@ -237,9 +237,9 @@ impl<D: Disk> Files<D> {
         ensures rooms { (n : Name) → D.room self.old.disk n ≤ D.room self.new.disk n }
         ensures cause { HasCause (D.faults self.old.disk) (D.faults self.new.disk) result }
         ensures views { IfOk result
-            (λ v. D.weak_views self.new.disk ≡ bumped (D.View.weak v) (D.weak_views self.old.disk)) }
-        ensures no_view { OnErr result (D.weak_views self.new.disk ≡ D.weak_views self.old.disk) }
-        ensures outs { D.weak_outs self.new.disk ≡ D.weak_outs self.old.disk }
+            (λ v. D.fallible_views self.new.disk ≡ bumped (D.View.fallible v) (D.fallible_views self.old.disk)) }
+        ensures no_view { OnErr result (D.fallible_views self.new.disk ≡ D.fallible_views self.old.disk) }
+        ensures outs { D.fallible_outs self.new.disk ≡ D.fallible_outs self.old.disk }
     {
         self.disk.view(name_of(file), at, len)
     }

@@ -3,13 +3,13 @@
 #![tactic(auto)]
 
 mod catalog;
+mod errors;
 mod files;
-mod refusals;
 mod scan;
 
 pub use catalog::{Active, Catalog};
+pub use errors::RollError;
 pub use files::Files;
-pub use refusals::RollError;
 pub use scan::{Found, Scan, ScanError, first_records, records_go_on};
 
 #[cfg(test)]

@@ -118,8 +118,8 @@ impl Scan {
             (self.new.held ++ V.left view.new ≡ self.old.held ++ V.left view.old) }
         ensures file { self.new.file ≡ self.old.file }
         ensures len { file_len self.new ≡ file_len self.old }
-        ensures cause { HasReadCause (V.faults view.old) (V.faults view.new) (V.weak view.old)
-            (V.weak view.new) result }
+        ensures cause { HasReadCause (V.faults view.old) (V.faults view.new) (V.fallible view.old)
+            (V.fallible view.new) result }
     {
         self.fetch(view)?;
         Ok(self.give()?)
@@ -137,8 +137,8 @@ impl Scan {
         ensures place { self.new.place ≡ self.old.place }
         ensures file { self.new.file ≡ self.old.file }
         ensures len { file_len self.new ≡ file_len self.old }
-        ensures cause { HasReadCause (V.faults view.old) (V.faults view.new) (V.weak view.old)
-            (V.weak view.new) result }
+        ensures cause { HasReadCause (V.faults view.old) (V.faults view.new) (V.fallible view.old)
+            (V.fallible view.new) result }
     {
         while self.wants() {
             self.fill(view)?;
@@ -173,8 +173,8 @@ impl Scan {
         ensures place { self.new.place ≡ self.old.place }
         ensures file { self.new.file ≡ self.old.file }
         ensures len { file_len self.new ≡ file_len self.old }
-        ensures cause { HasReadCause (V.faults view.old) (V.faults view.new) (V.weak view.old)
-            (V.weak view.new) result }
+        ensures cause { HasReadCause (V.faults view.old) (V.faults view.new) (V.fallible view.old)
+            (V.fallible view.new) result }
     {
         drop_given(&mut self.bytes, self.from);
         self.from = 0;
@@ -272,8 +272,8 @@ fn read_piece<V: View>(view: &mut V, unread: u64, bytes: &mut Vec<u8>) -> Result
         × (V.left view.new ≡ drop n (V.left view.old))) }
     ensures kept { OnErr result ((bytes.new.items ≡ bytes.old.items) × (V.rest view.new ≡ unread)) }
     ensures kept_left { IsTrue V.tells → OnErr result (V.left view.new ≡ V.left view.old) }
-    ensures cause { HasReadCause (V.faults view.old) (V.faults view.new) (V.weak view.old)
-        (V.weak view.new) result }
+    ensures cause { HasReadCause (V.faults view.old) (V.faults view.new) (V.fallible view.old)
+        (V.fallible view.new) result }
 {
     let held = bytes.len();
     bytes.resize(held + unread.min(PIECE) as usize, 0)?;

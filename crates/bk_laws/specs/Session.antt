@@ -17,7 +17,7 @@ use Rattle.bk_laws.specs.Wire.{request_text, reply_text, Fits}
 
 -- One request of a session, the moment that the clock gave for it, the steps that the history
 -- gained while it was served, and its replies.
-pub record Turn : Type 0 where
+pub record Exchange : Type 0 where
   pub request : Request
   pub now : Moment
   pub steps : List Step
@@ -59,38 +59,38 @@ Serves (Get key) now = OneCall (get_call key now) ShowsGet
 Serves (Put key value) now = OneCall (put_call key value now) ShowsPut
 
 -- the turn of a request that was served
-pub record IsTurn (who : ℕ) (t : Turn) : Type 0 where
+pub record IsExchange (who : ℕ) (t : Exchange) : Type 0 where
   pub fits : Fits t.request
   pub serves : Serves t.request t.now (named who t.steps) t.replies
 
 -- the turn of a request that was read and got no reply: its call was refused, or it was made and
 -- the session ended before its reply
-pub record IsCutOff (who : ℕ) (t : Turn) : Type 0 where
+pub record IsCutOff (who : ℕ) (t : Exchange) : Type 0 where
   pub fits : Fits t.request
   pub silent : t.replies ≡ []
   pub made : (named who t.steps ≡ []) ⊎ ((e : Entry) × (named who t.steps ≡ e ∷ []) × (e.call ≡ call_of t.request t.now))
 
-abbrev pub requests_of : List Turn → List ℕ
-requests_of = flat_map (λ (t : Turn). request_text t.request)
+abbrev pub requests_of : List Exchange → List ℕ
+requests_of = flat_map (λ (t : Exchange). request_text t.request)
 
-abbrev pub replies_of : List Turn → List ℕ
-replies_of = flat_map (λ (t : Turn). flat_map reply_text t.replies)
+abbrev pub replies_of : List Exchange → List ℕ
+replies_of = flat_map (λ (t : Exchange). flat_map reply_text t.replies)
 
-abbrev pub steps_of : List Turn → List Step
-steps_of = flat_map (λ (t : Turn). t.steps)
+abbrev pub steps_of : List Exchange → List Step
+steps_of = flat_map (λ (t : Exchange). t.steps)
 
-abbrev pub moments_of : List Turn → List Moment
-moments_of = map (λ (t : Turn). t.now)
+abbrev pub moments_of : List Exchange → List Moment
+moments_of = map (λ (t : Exchange). t.now)
 
 -- What was said: the turns of the requests that were served, and at most one that was cut off.
-pub record Talk : Type 0 where
-  pub served : List Turn
-  pub cut : List Turn
+pub record Transcript : Type 0 where
+  pub served : List Exchange
+  pub cut : List Exchange
 
-pub record IsTalk (who : ℕ) (talk : Talk) : Type 0 where
-  pub each : AllByRecursion (IsTurn who) talk.served
+pub record IsTranscript (who : ℕ) (talk : Transcript) : Type 0 where
+  pub each : AllByRecursion (IsExchange who) talk.served
   pub last : AllByRecursion (IsCutOff who) talk.cut
   pub one : length talk.cut ≤ 1
 
-abbrev pub all_turns : Talk → List Turn
-all_turns talk = talk.served ++ talk.cut
+abbrev pub all_exchanges : Transcript → List Exchange
+all_exchanges talk = talk.served ++ talk.cut

@@ -9,7 +9,7 @@ use Rattle.bk_base.specs.declared.names.Name.{Name}
 use Rattle.bk_disk.specs.declared.disks.Listed.{Listed}
 use Rattle.bk_disk.specs.Names.{same}
 use Rattle.bk_disk.specs.Told.{Table, Front, at, changed, bytes_of}
-use Rattle.bk_disk.specs.Calls.{Becomes, handed_more, all_safe, brought_back}
+use Rattle.bk_disk.specs.Calls.{Becomes, pending_more, all_synced, brought_back}
 use Rattle.bk_disk.proofs.Names.{same_eq}
 use Rattle.bk_disk.proofs.Tables.{at-changed, at-changed_other}
 use Rattle.bk_memdisk.specs.declared.changes.Change.{Change}
@@ -52,11 +52,11 @@ module _ (name : Name) (files : List MemFile) (t : Table Kept) (i : ℕ) (x : Me
   pub lent_is : (lent : Bool) → IsSomeAnd (at (fronts_of t) name) (λ f. f.lent ≡ lent) → x.lent ≡ lent
   lent_is lent h = let k = front_is in sym k.2.lent ∙ subst (λ o. IsSomeAnd o (λ f. f.lent ≡ lent)) k.1 h
 
-  pub safe_is : (len : ℕ) → IfSome (at (fronts_of t) name) (λ f. length f.safe ≤ len) → x.safe ≤ len
+  pub safe_is : (len : ℕ) → IfSome (at (fronts_of t) name) (λ f. length f.synced ≤ len) → x.synced ≤ len
   safe_is len h =
       let k = front_is in
-      let within : length (k.0).front.safe ≤ len = subst (λ o. IfSome o (λ f. length f.safe ≤ len)) k.1 h in
-      let safe : length (k.0).front.safe ≡ x.safe = ap length k.2.safe ∙ length-take x.safe x.bytes.items ∙ (let le = k.2.synced in omega arith) in
+      let within : length (k.0).front.synced ≤ len = subst (λ o. IfSome o (λ f. length f.synced ≤ len)) k.1 h in
+      let safe : length (k.0).front.synced ≡ x.synced = ap length k.2.synced ∙ length-take x.synced x.bytes.items ∙ (let le = k.2.within in omega arith) in
       omega (arith, within, safe)
 
 -- The entries of the journal that are reserved
@@ -87,8 +87,8 @@ module _ (files : List MemFile) (i : ℕ) (x : MemFile) (below : i < length file
   pub set_image : (g : MemFile) → g.name ≡ x.name → g.bytes.items ≡ x.bytes.items → image_of (set files i g) ≡ image_of files
   set_image g same_name bytes = unchanged (λ f. f.bytes.items) files i x g below (same_name ∙ ap (λ (f : MemFile). f.name) is) (bytes ∙ ap (λ (f : MemFile). f.bytes.items) is)
 
-pub fits_named : (x g : MemFile) (to : Name) → g ≡ record { name = to; bytes = x.bytes; spare = x.spare; room = x.room; safe = x.safe; dirty = x.dirty; lent = x.lent; spare_is_empty = x.spare_is_empty; spare_has_room = x.spare_has_room; bytes_have_room = x.bytes_have_room } → (k : Kept) → Fits x k → Fits g k
-fits_named x g to e k h = subst (λ f. Fits f k) (sym e) (record { bytes = h.bytes; synced = h.synced; safe = h.safe; reach = h.reach; lent = h.lent; clean = h.clean; away = h.away })
+pub fits_named : (x g : MemFile) (to : Name) → g ≡ record { name = to; bytes = x.bytes; spare = x.spare; room = x.room; synced = x.synced; dirty = x.dirty; lent = x.lent; spare_is_empty = x.spare_is_empty; spare_has_room = x.spare_has_room; bytes_have_room = x.bytes_have_room } → (k : Kept) → Fits x k → Fits g k
+fits_named x g to e k h = subst (λ f. Fits f k) (sym e) (record { bytes = h.bytes; within = h.within; synced = h.synced; longest = h.longest; lent = h.lent; clean = h.clean; away = h.away })
 
 pub owed_from : (x g : MemFile) → g.room ≡ x.room → (g.dirty ≡ x.dirty) × (g.lent ≡ x.lent) → owed g ≡ owed x
 owed_from x g room others = rw (room, others.0, others.1) refl
@@ -110,12 +110,12 @@ module _ (name : Name) (files : List MemFile) (cs ds : List Change) (i : ℕ) (x
       tied_changed name files (after_all [] cs) i x g step tied first (same_name ∙ ap (λ (f : MemFile). f.name) is) (λ k h. fits k (subst (λ y. Fits y k) (sym is) h))
       in subst (Tied (set files i g)) (sym (ap (after_all []) more ∙ after_all-append [] cs c ∙ after_is)) edited
 
-  pub edited_told : (edit : List ℕ → List ℕ) (front_step : Front → Front) (asked : List Listed) (astray : ℕ)
+  pub edited_told : (edit : List ℕ → List ℕ) (front_step : Front → Front) (asked : List Listed) (stray_views : ℕ)
       → g.bytes.items ≡ edit x.bytes.items → ((k : Kept) → Fits x k → (step k).front ≡ front_step k.front)
-      → Becomes (changed name edit) (changed name front_step) (told_of (image_of files) cs asked astray) (told_of (image_of (set files i g)) ds asked astray)
-  edited_told edit front_step asked astray bytes fronts =
+      → Becomes (changed name edit) (changed name front_step) (told_of (image_of files) cs asked stray_views) (told_of (image_of (set files i g)) ds asked stray_views)
+  edited_told edit front_step asked stray_views bytes fronts =
       let there = known name files (after_all [] cs) i x tied first is in
-      becomes (changed name edit) (changed name front_step) (image_of files) (image_of (set files i g)) cs ds c asked astray more
+      becomes (changed name edit) (changed name front_step) (image_of files) (image_of (set files i g)) cs ds c asked stray_views more
       (changed-first (λ f. f.bytes.items) name files i x g edit first (same_name ∙ ap (λ (f : MemFile). f.name) is) (bytes ∙ ap (λ (f : MemFile). edit f.bytes.items) is))
       (ap fronts_of after_is ∙ fronts-changed name step front_step (after_all [] cs) (λ k found. fronts k (let same_word : there.0 ≡ k = cc (there.1, found) in subst (λ y. Fits x y) same_word there.2)))
 
@@ -159,7 +159,7 @@ changed_fixed n f (e ∷ es) h =
 pub set_same : (files : List MemFile) (i : ℕ) (x : MemFile) → x ≡ get_or files i x → set files i x ≡ files
 set_same files i x is = ap (set files i) is ∙ set-get_or files i x
 
-module _ (name : Name) (files : List MemFile) (cs : List Change) (i : ℕ) (x : MemFile) (tied : Tied files (after_all [] cs)) (first : IsFirst name files i) (is : x ≡ get_or files i x) (asked : List Listed) (astray : ℕ) where
+module _ (name : Name) (files : List MemFile) (cs : List Change) (i : ℕ) (x : MemFile) (tied : Tied files (after_all [] cs)) (first : IsFirst name files i) (is : x ≡ get_or files i x) (asked : List Listed) (stray_views : ℕ) where
   word_of : (front : Front) → at (fronts_of (after_all [] cs)) name ≡ Some front → (k : Kept) × (k.front ≡ front) × Fits x k
   word_of front found =
       let there = front_is name files (after_all [] cs) i x tied first is in
@@ -167,61 +167,61 @@ module _ (name : Name) (files : List MemFile) (cs : List Change) (i : ℕ) (x : 
       (there.0, word, there.2)
 
   -- no byte is appended
-  pub appended_nothing : (through : ℕ) → Becomes (changed name (λ b. b ++ take through [])) (changed name (handed_more (length (bytes_of name (image_of files) ++ take through [])) [])) (told_of (image_of files) cs asked astray) (told_of (image_of files) cs asked astray)
+  pub appended_nothing : (through : ℕ) → Becomes (changed name (λ b. b ++ take through [])) (changed name (pending_more (length (bytes_of name (image_of files) ++ take through [])) [])) (told_of (image_of files) cs asked stray_views) (told_of (image_of files) cs asked stray_views)
   appended_nothing through =
       let none : take {A = ℕ} through [] ≡ [] = take_all through [] (omega arith) in
       let kept_bytes : changed name (λ b. b ++ take through []) (image_of files) ≡ image_of files =
       changed_fixed name (λ b. b ++ take through []) (image_of files) (λ b found. ap (λ more. b ++ more) none ∙ append-nil b) in
       let same_len : length (bytes_of name (image_of files) ++ take through []) ≡ length x.bytes.items =
       ap length (ap (λ more. bytes_of name (image_of files) ++ more) none ∙ append-nil (bytes_of name (image_of files)) ∙ bytes_is name files (after_all [] cs) i x tied first is) in
-      becomes_untold (changed name (λ b. b ++ take through [])) (changed name (handed_more (length (bytes_of name (image_of files) ++ take through [])) [])) (image_of files) (image_of files) cs asked astray
+      becomes_untold (changed name (λ b. b ++ take through [])) (changed name (pending_more (length (bytes_of name (image_of files) ++ take through [])) [])) (image_of files) (image_of files) cs asked stray_views
       (sym kept_bytes)
-      (sym (changed_fixed name (handed_more (length (bytes_of name (image_of files) ++ take through [])) []) (fronts_of (after_all [] cs))
+      (sym (changed_fixed name (pending_more (length (bytes_of name (image_of files) ++ take through [])) []) (fronts_of (after_all [] cs))
       (λ front found.
       let k = word_of front found in
-      let reached : length x.bytes.items ≤ front.reach = subst (λ (f : Front). length x.bytes.items ≤ f.reach) k.1 k.2.reach in
-      let reach : max front.reach (length (bytes_of name (image_of files) ++ take through [])) ≡ front.reach = omega (arith, same_len, reached) in
-      ap (λ r. record { safe = front.safe; reach = r; handed = front.handed ++ []; lent = front.lent }) reach
-      ∙ ap (λ h. record { safe = front.safe; reach = front.reach; handed = h; lent = front.lent }) (append-nil front.handed))))
+      let reached : length x.bytes.items ≤ front.longest = subst (λ (f : Front). length x.bytes.items ≤ f.longest) k.1 k.2.longest in
+      let reach : max front.longest (length (bytes_of name (image_of files) ++ take through [])) ≡ front.longest = omega (arith, same_len, reached) in
+      ap (λ r. record { synced = front.synced; longest = r; pending = front.pending ++ []; lent = front.lent }) reach
+      ∙ ap (λ h. record { synced = front.synced; longest = front.longest; pending = h; lent = front.lent }) (append-nil front.pending))))
 
   -- a sync with nothing to do
-  pub synced_already : x.dirty ≡ false → Becomes (λ image. image) (changed name (all_safe (bytes_of name (image_of files)))) (told_of (image_of files) cs asked astray) (told_of (image_of files) cs asked astray)
+  pub synced_already : x.dirty ≡ false → Becomes (λ image. image) (changed name (all_synced (bytes_of name (image_of files)))) (told_of (image_of files) cs asked stray_views) (told_of (image_of files) cs asked stray_views)
   synced_already clean =
-      becomes_untold (λ image. image) (changed name (all_safe (bytes_of name (image_of files)))) (image_of files) (image_of files) cs asked astray refl
-      (sym (changed_fixed name (all_safe (bytes_of name (image_of files))) (fronts_of (after_all [] cs))
+      becomes_untold (λ image. image) (changed name (all_synced (bytes_of name (image_of files)))) (image_of files) (image_of files) cs asked stray_views refl
+      (sym (changed_fixed name (all_synced (bytes_of name (image_of files))) (fronts_of (after_all [] cs))
       (λ front found.
       let k = word_of front found in
-      let whole : front ≡ all_safe x.bytes.items front = subst (λ f. f ≡ all_safe x.bytes.items f) k.1 (k.2.clean clean) in
-      ap (λ b. all_safe b front) (bytes_is name files (after_all [] cs) i x tied first is) ∙ sym whole)))
+      let whole : front ≡ all_synced x.bytes.items front = subst (λ f. f ≡ all_synced x.bytes.items f) k.1 (k.2.clean clean) in
+      ap (λ b. all_synced b front) (bytes_is name files (after_all [] cs) i x tied first is) ∙ sym whole)))
 
   -- a cut
-  pub cut_told : (g : MemFile) (len : ℕ) → g.name ≡ x.name → g.bytes.items ≡ take len x.bytes.items → Becomes (changed name (λ b. take len b)) (λ fronts. fronts) (told_of (image_of files) cs asked astray) (told_of (image_of (set files i g)) cs asked astray)
+  pub cut_told : (g : MemFile) (len : ℕ) → g.name ≡ x.name → g.bytes.items ≡ take len x.bytes.items → Becomes (changed name (λ b. take len b)) (λ fronts. fronts) (told_of (image_of files) cs asked stray_views) (told_of (image_of (set files i g)) cs asked stray_views)
   cut_told g len same_name bytes =
-      becomes_untold (changed name (λ b. take len b)) (λ fronts. fronts) (image_of files) (image_of (set files i g)) cs asked astray
+      becomes_untold (changed name (λ b. take len b)) (λ fronts. fronts) (image_of files) (image_of (set files i g)) cs asked stray_views
       (changed-first (λ f. f.bytes.items) name files i x g (λ b. take len b) first (same_name ∙ ap (λ (f : MemFile). f.name) is) (bytes ∙ ap (λ (f : MemFile). take len f.bytes.items) is))
       refl
 
   module _ (g : MemFile) (c : Change) (ds : List Change) (more : ds ≡ cs ++ c ∷ []) (same_name : g.name ≡ x.name) where
     pub appended_told : (through : ℕ) (piece : List ℕ) → ((k : Kept) → Fits x k → Fits g (handed (length x.bytes.items) through piece k)) → ((t : Table Kept) → after t c ≡ changed x.name (handed (length x.bytes.items) through piece) t) → g.bytes.items ≡ x.bytes.items ++ take through piece
-        → Becomes (changed name (λ b. b ++ take through piece)) (changed name (handed_more (length (bytes_of name (image_of files) ++ take through piece)) piece)) (told_of (image_of files) cs asked astray) (told_of (image_of (set files i g)) ds asked astray)
+        → Becomes (changed name (λ b. b ++ take through piece)) (changed name (pending_more (length (bytes_of name (image_of files) ++ take through piece)) piece)) (told_of (image_of files) cs asked stray_views) (told_of (image_of (set files i g)) ds asked stray_views)
     appended_told through piece fits change bytes =
-        edited_told name files cs ds i x g c (handed (length x.bytes.items) through piece) tied first is more same_name fits (change (after_all [] cs)) (λ b. b ++ take through piece) (handed_more (length (bytes_of name (image_of files) ++ take through piece)) piece) asked astray bytes
-        (λ k h. ap (λ b. handed_more (length (b ++ take through piece)) piece k.front) (sym h.bytes ∙ sym (bytes_is name files (after_all [] cs) i x tied first is)))
+        edited_told name files cs ds i x g c (handed (length x.bytes.items) through piece) tied first is more same_name fits (change (after_all [] cs)) (λ b. b ++ take through piece) (pending_more (length (bytes_of name (image_of files) ++ take through piece)) piece) asked stray_views bytes
+        (λ k h. ap (λ b. pending_more (length (b ++ take through piece)) piece k.front) (sym h.bytes ∙ sym (bytes_is name files (after_all [] cs) i x tied first is)))
 
     pub synced_told : ((k : Kept) → Fits x k → Fits g (synced (length x.bytes.items) k)) → ((t : Table Kept) → after t c ≡ changed x.name (synced (length x.bytes.items)) t) → g.bytes.items ≡ x.bytes.items
-        → Becomes (λ image. image) (changed name (all_safe (bytes_of name (image_of files)))) (told_of (image_of files) cs asked astray) (told_of (image_of (set files i g)) ds asked astray)
+        → Becomes (λ image. image) (changed name (all_synced (bytes_of name (image_of files)))) (told_of (image_of files) cs asked stray_views) (told_of (image_of (set files i g)) ds asked stray_views)
     synced_told fits change bytes =
-        let whole = edited_told name files cs ds i x g c (synced (length x.bytes.items)) tied first is more same_name fits (change (after_all [] cs)) (λ b. b) (all_safe (bytes_of name (image_of files))) asked astray bytes
-        (λ k h. ap (λ b. all_safe b k.front) (sym h.bytes ∙ sym (bytes_is name files (after_all [] cs) i x tied first is))) in
+        let whole = edited_told name files cs ds i x g c (synced (length x.bytes.items)) tied first is more same_name fits (change (after_all [] cs)) (λ b. b) (all_synced (bytes_of name (image_of files))) asked stray_views bytes
+        (λ k h. ap (λ b. all_synced b k.front) (sym h.bytes ∙ sym (bytes_is name files (after_all [] cs) i x tied first is))) in
         record {
           passes = whole.passes;
           image = whole.image ∙ changed_fixed name (λ b. b) (image_of files) (λ b found. refl);
           fronts = whole.fronts;
           asked = whole.asked;
-          astray = whole.astray;
+          stray_views = whole.stray_views;
         }
 
     pub returned_told : (bytes : List ℕ) → ((k : Kept) → Fits x k → Fits g (returned bytes k)) → ((t : Table Kept) → after t c ≡ changed x.name (returned bytes) t) → g.bytes.items ≡ bytes
-        → Becomes (changed name (λ _. bytes)) (changed name (brought_back bytes)) (told_of (image_of files) cs asked astray) (told_of (image_of (set files i g)) ds asked astray)
+        → Becomes (changed name (λ _. bytes)) (changed name (brought_back bytes)) (told_of (image_of files) cs asked stray_views) (told_of (image_of (set files i g)) ds asked stray_views)
     returned_told bytes fits change is_now =
-        edited_told name files cs ds i x g c (returned bytes) tied first is more same_name fits (change (after_all [] cs)) (λ _. bytes) (brought_back bytes) asked astray is_now (λ k h. refl)
+        edited_told name files cs ds i x g c (returned bytes) tied first is more same_name fits (change (after_all [] cs)) (λ _. bytes) (brought_back bytes) asked stray_views is_now (λ k h. refl)

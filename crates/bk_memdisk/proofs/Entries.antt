@@ -22,29 +22,29 @@ fronts_before-append t (d ∷ ds) c = ap (λ past. fronts_of t ∷ past) (fronts
 
 -- what is told of these files under this journal
 abbrev pub told_of : Image → List Change → List Listed → ℕ → Told
-told_of image cs asked astray = record {
+told_of image cs asked stray_views = record {
   image = image;
   past = fronts_before [] cs;
   fronts = fronts_of (after_all [] cs);
   asked = asked;
-  astray = astray;
+  stray_views = stray_views;
 }
 
 -- one entry more
-pub becomes : (edit : Image → Image) (step : Table Front → Table Front) (old new : Image) (cs ds : List Change) (c : Change) (asked : List Listed) (astray : ℕ)
-    → ds ≡ cs ++ c ∷ [] → new ≡ edit old → fronts_of (after (after_all [] cs) c) ≡ step (fronts_of (after_all [] cs)) → Becomes edit step (told_of old cs asked astray) (told_of new ds asked astray)
-becomes edit step old new cs ds c asked astray more image fronts = record {
+pub becomes : (edit : Image → Image) (step : Table Front → Table Front) (old new : Image) (cs ds : List Change) (c : Change) (asked : List Listed) (stray_views : ℕ)
+    → ds ≡ cs ++ c ∷ [] → new ≡ edit old → fronts_of (after (after_all [] cs) c) ≡ step (fronts_of (after_all [] cs)) → Becomes edit step (told_of old cs asked stray_views) (told_of new ds asked stray_views)
+becomes edit step old new cs ds c asked stray_views more image fronts = record {
   passes = inr (ap (fronts_before []) more ∙ fronts_before-append [] cs c);
   image = image;
   fronts = ap (λ xs. fronts_of (after_all [] xs)) more ∙ ap fronts_of (after_all-append [] cs c) ∙ fronts;
   asked = refl;
-  astray = refl;
+  stray_views = refl;
 }
 
 -- no entry, since no stop can tell the change
-pub becomes_untold : (edit : Image → Image) (step : Table Front → Table Front) (old new : Image) (cs : List Change) (asked : List Listed) (astray : ℕ)
-    → new ≡ edit old → fronts_of (after_all [] cs) ≡ step (fronts_of (after_all [] cs)) → Becomes edit step (told_of old cs asked astray) (told_of new cs asked astray)
-becomes_untold edit step old new cs asked astray image fronts = record { passes = inl (refl, refl); image = image; fronts = fronts; asked = refl; astray = refl }
+pub becomes_untold : (edit : Image → Image) (step : Table Front → Table Front) (old new : Image) (cs : List Change) (asked : List Listed) (stray_views : ℕ)
+    → new ≡ edit old → fronts_of (after_all [] cs) ≡ step (fronts_of (after_all [] cs)) → Becomes edit step (told_of old cs asked stray_views) (told_of new cs asked stray_views)
+becomes_untold edit step old new cs asked stray_views image fronts = record { passes = inl (refl, refl); image = image; fronts = fronts; asked = refl; stray_views = refl }
 
 -- The fronts after an edit
 

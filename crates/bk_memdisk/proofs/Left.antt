@@ -62,7 +62,7 @@ octets_take n bytes h i =
 
 -- the bytes of the files that are left
 abbrev pub image_left : Option ℕ → List ℕ → List MemFile → Image
-image_left keep flips files = map (λ (f : MemFile). (f.name, left_of keep flips f.safe f.bytes.items)) files
+image_left keep flips files = map (λ (f : MemFile). (f.name, left_of keep flips f.synced f.bytes.items)) files
 
 abbrev pub AllOctets : Image → Type 0
 AllOctets [] = Unit {0}
@@ -72,8 +72,8 @@ pub all_octets_append : (image : Image) (n : Name) (bytes : List ℕ) → AllOct
 all_octets_append [] n bytes h b = (b, tt)
 all_octets_append (e ∷ es) n bytes h b = (h.0, all_octets_append es n bytes h.1 b)
 
-safe_length : (f : MemFile) (k : Kept) → Fits f k → length (k.front).safe ≡ f.safe
-safe_length f k h = ap length h.safe ∙ length-take-le f.safe f.bytes.items h.synced
+safe_length : (f : MemFile) (k : Kept) → Fits f k → length (k.front).synced ≡ f.synced
+safe_length f k h = ap length h.synced ∙ length-take-le f.synced f.bytes.items h.within
 
 pub crashed_is : (keep : Option ℕ) (flips : List ℕ) (files : List MemFile) (t : Table Kept) → Tied files t → image_left keep flips files ≡ crashed keep flips (fronts_of t) (image_of files)
 crashed_is keep flips [] [] h = refl
@@ -81,25 +81,25 @@ crashed_is keep flips [] (e ∷ es) h = absurd h
 crashed_is keep flips (f ∷ fs) [] h = absurd h
 crashed_is keep flips (f ∷ fs) (e ∷ es) h =
     ap (λ n. (f.name, left_of keep flips n f.bytes.items) ∷ image_left keep flips fs) (sym (safe_length f e.1 h.1))
-    ∙ ap (λ t. (f.name, left_of keep flips (length (e.1.front).safe) f.bytes.items) ∷ t) (crashed_is keep flips fs es h.2)
+    ∙ ap (λ t. (f.name, left_of keep flips (length (e.1.front).synced) f.bytes.items) ∷ t) (crashed_is keep flips fs es h.2)
 
-keeps_left : (keep : Option ℕ) (flips : List ℕ) (f : MemFile) (k : Kept) → Fits f k → Keeps k.front (left_of keep flips f.safe f.bytes.items)
+keeps_left : (keep : Option ℕ) (flips : List ℕ) (f : MemFile) (k : Kept) → Fits f k → Keeps k.front (left_of keep flips f.synced f.bytes.items)
 keeps_left keep flips f k h =
     let safe = safe_length f k h in
-    let front : length (take f.safe f.bytes.items) ≡ f.safe = length-take-le f.safe f.bytes.items h.synced in
-    let part : length (all_flipped flips 0 (kept_part keep (drop f.safe f.bytes.items))) ≤ length f.bytes.items - f.safe =
-    let flipped_len = length-all_flipped flips 0 (kept_part keep (drop f.safe f.bytes.items)) in
-    let kept_len = length-kept_part keep (drop f.safe f.bytes.items) in
-    let rest_len = length-drop f.safe f.bytes.items in
+    let front : length (take f.synced f.bytes.items) ≡ f.synced = length-take-le f.synced f.bytes.items h.within in
+    let part : length (all_flipped flips 0 (kept_part keep (drop f.synced f.bytes.items))) ≤ length f.bytes.items - f.synced =
+    let flipped_len = length-all_flipped flips 0 (kept_part keep (drop f.synced f.bytes.items)) in
+    let kept_len = length-kept_part keep (drop f.synced f.bytes.items) in
+    let rest_len = length-drop f.synced f.bytes.items in
     omega (arith, flipped_len, kept_len, rest_len)
     in
-    let all : length (left_of keep flips f.safe f.bytes.items) ≡ length (take f.safe f.bytes.items) + length (all_flipped flips 0 (kept_part keep (drop f.safe f.bytes.items))) =
-    length-append (take f.safe f.bytes.items) (all_flipped flips 0 (kept_part keep (drop f.safe f.bytes.items)))
+    let all : length (left_of keep flips f.synced f.bytes.items) ≡ length (take f.synced f.bytes.items) + length (all_flipped flips 0 (kept_part keep (drop f.synced f.bytes.items))) =
+    length-append (take f.synced f.bytes.items) (all_flipped flips 0 (kept_part keep (drop f.synced f.bytes.items)))
     in
     record {
-      safe = ap (λ n. take n (left_of keep flips f.safe f.bytes.items)) safe ∙ take_at (take f.safe f.bytes.items) (all_flipped flips 0 (kept_part keep (drop f.safe f.bytes.items))) f.safe front ∙ sym h.safe;
+      synced = ap (λ n. take n (left_of keep flips f.synced f.bytes.items)) safe ∙ take_at (take f.synced f.bytes.items) (all_flipped flips 0 (kept_part keep (drop f.synced f.bytes.items))) f.synced front ∙ sym h.synced;
       no_shorter = omega (arith, safe, front, all);
-      no_longer = omega (arith, front, all, part, h.reach, h.synced);
+      no_longer = omega (arith, front, all, part, h.longest, h.within);
     }
 
 pub may_leave : (keep : Option ℕ) (flips : List ℕ) (files : List MemFile) (t : Table Kept) → Tied files t → AllOctets (image_left keep flips files) → MayLeave (fronts_of t) (image_left keep flips files)
@@ -143,11 +143,11 @@ next_absent keep flips files i x once lt is =
     ∙ ap (λ ns. has ns x.name) (names-left keep flips (take i files))
     ∙ has-append (names (image_of (take i files))) x.name (names (image_of (drop (i + 1) files))) (subst IsOnce parts once)
 
-image_left-append : (keep : Option ℕ) (flips : List ℕ) (files : List MemFile) (x : MemFile) → image_left keep flips (files ++ x ∷ []) ≡ image_left keep flips files ++ (x.name, left_of keep flips x.safe x.bytes.items) ∷ []
+image_left-append : (keep : Option ℕ) (flips : List ℕ) (files : List MemFile) (x : MemFile) → image_left keep flips (files ++ x ∷ []) ≡ image_left keep flips files ++ (x.name, left_of keep flips x.synced x.bytes.items) ∷ []
 image_left-append keep flips [] x = refl
-image_left-append keep flips (f ∷ fs) x = ap (λ t. (f.name, left_of keep flips f.safe f.bytes.items) ∷ t) (image_left-append keep flips fs x)
+image_left-append keep flips (f ∷ fs) x = ap (λ t. (f.name, left_of keep flips f.synced f.bytes.items) ∷ t) (image_left-append keep flips fs x)
 
-pub left_next : (keep : Option ℕ) (flips : List ℕ) (files : List MemFile) (i : ℕ) (x : MemFile) → i < length files → x ≡ get_or files i x → image_left keep flips (take (i + 1) files) ≡ image_left keep flips (take i files) ++ (x.name, left_of keep flips x.safe x.bytes.items) ∷ []
+pub left_next : (keep : Option ℕ) (flips : List ℕ) (files : List MemFile) (i : ℕ) (x : MemFile) → i < length files → x ≡ get_or files i x → image_left keep flips (take (i + 1) files) ≡ image_left keep flips (take i files) ++ (x.name, left_of keep flips x.synced x.bytes.items) ∷ []
 left_next keep flips files i x lt is =
     ap (image_left keep flips) (take_more files i x lt ∙ ap (λ f. take i files ++ f ∷ []) (sym is)) ∙ image_left-append keep flips (take i files) x
 
@@ -173,12 +173,12 @@ placed_next n bytes old new absent synced b =
     )
 
 -- each file stands for what the journal says of it
-pub tied_synced : (files : List MemFile) (t : Table Kept) (i : ℕ) (x : MemFile) → Tied files t → i < length files → x ≡ get_or files i x → x.safe ≤ length x.bytes.items
-tied_synced files t i x tied lt is = subst (λ (f : MemFile). f.safe ≤ length f.bytes.items) (sym is) (go files t i tied lt) where
-  go : (fs : List MemFile) (t : Table Kept) (i : ℕ) → Tied fs t → i < length fs → (get_or fs i x).safe ≤ length (get_or fs i x).bytes.items
+pub tied_synced : (files : List MemFile) (t : Table Kept) (i : ℕ) (x : MemFile) → Tied files t → i < length files → x ≡ get_or files i x → x.synced ≤ length x.bytes.items
+tied_synced files t i x tied lt is = subst (λ (f : MemFile). f.synced ≤ length f.bytes.items) (sym is) (go files t i tied lt) where
+  go : (fs : List MemFile) (t : Table Kept) (i : ℕ) → Tied fs t → i < length fs → (get_or fs i x).synced ≤ length (get_or fs i x).bytes.items
   go [] t i h lt = absurd (omega arith)
   go (f ∷ fs) [] i h lt = absurd h
-  go (f ∷ fs) (e ∷ es) zero h lt = h.1.synced
+  go (f ∷ fs) (e ∷ es) zero h lt = h.1.within
   go (f ∷ fs) (e ∷ es) (suc i) h lt = go fs es i h.2 (omega arith)
 
 -- Each name stands once in what a stop left

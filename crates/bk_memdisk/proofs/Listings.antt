@@ -58,22 +58,22 @@ listed_all files (Err e) h = tt
 pub one_at_most : (lent : Bool) → cond lent 1 0 ≤ 1
 one_at_most lent = grind arith
 
-module _ (files : List MemFile) (cs : List Change) (tied : Tied files (after_all [] cs)) (asked : List Listed) (astray : ℕ) where
+module _ (files : List MemFile) (cs : List Change) (tied : Tied files (after_all [] cs)) (asked : List Listed) (stray_views : ℕ) where
   -- the name is there already
-  pub made_already : (n : Name) (lent : Bool) → is_some (at (image_of files) n) ≡ true → Becomes (with_name n []) (with_name n (fresh lent)) (told_of (image_of files) cs asked astray) (told_of (image_of files) cs asked astray)
+  pub made_already : (n : Name) (lent : Bool) → is_some (at (image_of files) n) ≡ true → Becomes (with_name n []) (with_name n (fresh lent)) (told_of (image_of files) cs asked stray_views) (told_of (image_of files) cs asked stray_views)
   made_already n lent there =
-      becomes_untold (with_name n []) (with_name n (fresh lent)) (image_of files) (image_of files) cs asked astray
+      becomes_untold (with_name n []) (with_name n (fresh lent)) (image_of files) (image_of files) cs asked stray_views
       (rw there refl) (rw (front_there n files (after_all [] cs) tied ∙ there) refl)
 
   -- the name isn't there
-  pub removed_already : (n : Name) → is_some (at (image_of files) n) ≡ false → Becomes (without n) (without n) (told_of (image_of files) cs asked astray) (told_of (image_of files) cs asked astray)
+  pub removed_already : (n : Name) → is_some (at (image_of files) n) ≡ false → Becomes (without n) (without n) (told_of (image_of files) cs asked stray_views) (told_of (image_of files) cs asked stray_views)
   removed_already n absent =
-      becomes_untold (without n) (without n) (image_of files) (image_of files) cs asked astray
+      becomes_untold (without n) (without n) (image_of files) (image_of files) cs asked stray_views
       (sym (without-absent n (image_of files) absent)) (sym (without-absent n (fronts_of (after_all [] cs)) (front_there n files (after_all [] cs) tied ∙ absent)))
 
-  pub renamed_already : (from to : Name) → is_some (at (image_of files) from) ≡ false → Becomes (renamed from to) (renamed from to) (told_of (image_of files) cs asked astray) (told_of (image_of files) cs asked astray)
+  pub renamed_already : (from to : Name) → is_some (at (image_of files) from) ≡ false → Becomes (renamed from to) (renamed from to) (told_of (image_of files) cs asked stray_views) (told_of (image_of files) cs asked stray_views)
   renamed_already from to absent =
-      becomes_untold (renamed from to) (renamed from to) (image_of files) (image_of files) cs asked astray
+      becomes_untold (renamed from to) (renamed from to) (image_of files) (image_of files) cs asked stray_views
       (sym (renamed-absent from to (image_of files) absent)) (sym (renamed-absent from to (fronts_of (after_all [] cs)) (front_there from files (after_all [] cs) tied ∙ absent)))
 
 -- a new file stands at the end
@@ -90,17 +90,17 @@ module _ (name : Name) (files : List MemFile) (cs ds : List Change) (f : MemFile
   grown_image : image_of (files ++ f ∷ []) ≡ image_of files ++ (name, f.bytes.items) ∷ []
   grown_image = table_of-append (λ f. f.bytes.items) files f ∙ ap (λ n. image_of files ++ (n, f.bytes.items) ∷ []) is
 
-  pub made_told : (asked : List Listed) (astray : ℕ) (lent : Bool) → after (after_all [] cs) c ≡ with_name name k (after_all [] cs) → f.bytes.items ≡ [] → k.front ≡ fresh lent
-      → Becomes (with_name name []) (with_name name (fresh lent)) (told_of (image_of files) cs asked astray) (told_of (image_of (files ++ f ∷ [])) ds asked astray)
-  made_told asked astray lent change empty front =
-      becomes (with_name name []) (with_name name (fresh lent)) (image_of files) (image_of (files ++ f ∷ [])) cs ds c asked astray more
+  pub made_told : (asked : List Listed) (stray_views : ℕ) (lent : Bool) → after (after_all [] cs) c ≡ with_name name k (after_all [] cs) → f.bytes.items ≡ [] → k.front ≡ fresh lent
+      → Becomes (with_name name []) (with_name name (fresh lent)) (told_of (image_of files) cs asked stray_views) (told_of (image_of (files ++ f ∷ [])) ds asked stray_views)
+  made_told asked stray_views lent change empty front =
+      becomes (with_name name []) (with_name name (fresh lent)) (image_of files) (image_of (files ++ f ∷ [])) cs ds c asked stray_views more
       (grown_image ∙ rw (absent, empty) refl)
       (ap fronts_of change ∙ fronts-with_name name k (after_all [] cs) ∙ ap (λ x. with_name name x (fronts_of (after_all [] cs))) front)
 
-  pub put_told : (asked : List Listed) (astray : ℕ) (bytes : List ℕ) (front : Front) → after (after_all [] cs) c ≡ placed name k (after_all [] cs) → f.bytes.items ≡ bytes → k.front ≡ front
-      → Becomes (placed name bytes) (placed name front) (told_of (image_of files) cs asked astray) (told_of (image_of (files ++ f ∷ [])) ds asked astray)
-  put_told asked astray bytes front change same_bytes same_front =
-      becomes (placed name bytes) (placed name front) (image_of files) (image_of (files ++ f ∷ [])) cs ds c asked astray more
+  pub put_told : (asked : List Listed) (stray_views : ℕ) (bytes : List ℕ) (front : Front) → after (after_all [] cs) c ≡ placed name k (after_all [] cs) → f.bytes.items ≡ bytes → k.front ≡ front
+      → Becomes (placed name bytes) (placed name front) (told_of (image_of files) cs asked stray_views) (told_of (image_of (files ++ f ∷ [])) ds asked stray_views)
+  put_told asked stray_views bytes front change same_bytes same_front =
+      becomes (placed name bytes) (placed name front) (image_of files) (image_of (files ++ f ∷ [])) cs ds c asked stray_views more
       (grown_image ∙ rw (absent, same_bytes) refl)
       (ap fronts_of change ∙ fronts-placed name k (after_all [] cs) ∙ ap (λ x. placed name x (fronts_of (after_all [] cs))) same_front)
 
@@ -122,9 +122,9 @@ module _ (from to : Name) (files : List MemFile) (cs ds : List Change) (i : ℕ)
       subst (Tied (set files i g)) (sym (ap (after_all []) more ∙ after_all-append [] cs c ∙ change))
       (tied_renamed from to files (after_all [] cs) i x g tied first is (λ k h. fits k (subst (λ y. Fits y k) (sym same_file) h)))
 
-  pub moved_told : (asked : List Listed) (astray : ℕ) → g.bytes.items ≡ x.bytes.items → Becomes (renamed from to) (renamed from to) (told_of (image_of files) cs asked astray) (told_of (image_of (set files i g)) ds asked astray)
-  moved_told asked astray bytes =
-      becomes (renamed from to) (renamed from to) (image_of files) (image_of (set files i g)) cs ds c asked astray more
+  pub moved_told : (asked : List Listed) (stray_views : ℕ) → g.bytes.items ≡ x.bytes.items → Becomes (renamed from to) (renamed from to) (told_of (image_of files) cs asked stray_views) (told_of (image_of (set files i g)) ds asked stray_views)
+  moved_told asked stray_views bytes =
+      becomes (renamed from to) (renamed from to) (image_of files) (image_of (set files i g)) cs ds c asked stray_views more
       (renamed-first (λ f. f.bytes.items) from to files i x g first is (bytes ∙ ap (λ (f : MemFile). f.bytes.items) same_file))
       (ap fronts_of change ∙ fronts-renamed from to (after_all [] cs))
 
@@ -139,9 +139,9 @@ module _ (name : Name) (files : List MemFile) (cs ds : List Change) (i : ℕ) (c
   pub gone_tied : Tied (remove files i) (after_all [] ds)
   gone_tied = subst (Tied (remove files i)) (sym (ap (after_all []) more ∙ after_all-append [] cs c ∙ change)) (tied_without name files (after_all [] cs) i tied first)
 
-  pub gone_told : (asked : List Listed) (astray : ℕ) → Becomes (without name) (without name) (told_of (image_of files) cs asked astray) (told_of (image_of (remove files i)) ds asked astray)
-  gone_told asked astray =
-      becomes (without name) (without name) (image_of files) (image_of (remove files i)) cs ds c asked astray more
+  pub gone_told : (asked : List Listed) (stray_views : ℕ) → Becomes (without name) (without name) (told_of (image_of files) cs asked stray_views) (told_of (image_of (remove files i)) ds asked stray_views)
+  gone_told asked stray_views =
+      becomes (without name) (without name) (image_of files) (image_of (remove files i)) cs ds c asked stray_views more
       (without-first (λ f. f.bytes.items) name files i first) (ap fronts_of change ∙ fronts-without name (after_all [] cs))
 
   pub gone_rooms : (n : Name) → same n name ≡ false → unwrap_or (at (rooms_of (remove files i)) n) 0 ≡ unwrap_or (at (rooms_of files) n) 0
@@ -176,14 +176,14 @@ module _ (name : Name) (files : List MemFile) (cs ds : List Change) (i : ℕ) (x
   pub replaced_tied : Tied (set files i g) (after_all [] ds)
   replaced_tied = Edits.edited_tied name files cs ds i x g c (λ _. k) tied first is more same_name (λ j h. fits) changed_word
 
-  pub replaced_told : (asked : List Listed) (astray : ℕ) (bytes : List ℕ) (front : Front) → g.bytes.items ≡ bytes → k.front ≡ front
-      → Becomes (placed name bytes) (placed name front) (told_of (image_of files) cs asked astray) (told_of (image_of (set files i g)) ds asked astray)
-  replaced_told asked astray bytes front same_bytes same_front =
-      let edit = Edits.edited_told name files cs ds i x g c (λ _. k) tied first is more same_name (λ j h. fits) changed_word (λ _. bytes) (λ _. front) asked astray same_bytes (λ j h. same_front) in
+  pub replaced_told : (asked : List Listed) (stray_views : ℕ) (bytes : List ℕ) (front : Front) → g.bytes.items ≡ bytes → k.front ≡ front
+      → Becomes (placed name bytes) (placed name front) (told_of (image_of files) cs asked stray_views) (told_of (image_of (set files i g)) ds asked stray_views)
+  replaced_told asked stray_views bytes front same_bytes same_front =
+      let edit = Edits.edited_told name files cs ds i x g c (λ _. k) tied first is more same_name (λ j h. fits) changed_word (λ _. bytes) (λ _. front) asked stray_views same_bytes (λ j h. same_front) in
       record {
         passes = edit.passes;
         image = edit.image ∙ rw here refl;
         fronts = edit.fronts ∙ rw (front_there name files (after_all [] cs) tied ∙ here) refl;
         asked = edit.asked;
-        astray = edit.astray;
+        stray_views = edit.stray_views;
       }

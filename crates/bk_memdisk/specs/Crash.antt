@@ -27,4 +27,4 @@ abbrev pub crashed : Option ℕ → List ℕ → Table Front → Image → Image
 crashed keep flips [] [] = []
 crashed keep flips [] (e ∷ es) = []
 crashed keep flips (f ∷ fs) [] = []
-crashed keep flips (f ∷ fs) (e ∷ es) = (e.0, left_of keep flips (length (f.1).safe) e.1) ∷ crashed keep flips fs es
+crashed keep flips (f ∷ fs) (e ∷ es) = (e.0, left_of keep flips (length (f.1).synced) e.1) ∷ crashed keep flips fs es

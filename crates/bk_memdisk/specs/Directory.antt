@@ -13,7 +13,7 @@ contents_of d = record {
     past = fronts_before [] d.journal.items;
     fronts = fronts_of (after_all [] d.journal.items);
     asked = d.asked.items;
-    astray = d.astray;
+    stray_views = d.stray_views;
   };
   rooms = rooms_of d.files.items;
 }

@@ -2,9 +2,9 @@
 use Rattle.std.specs.Prelude.{◌≡◌, ◌≢◌, ℕ, Result, Ok, Err}
 use Rattle.std.specs.declared.option.Option.{Option}
 use Rattle.std.specs.declared.option.Option.TheVariants.{None, Some}
-use Rattle.bk_disk.specs.declared.failures.Failed.{Failed as Fault}
-use Rattle.bk_disk.specs.declared.failures.DiskError.{DiskError}
-use Rattle.bk_disk.specs.declared.failures.DiskError.TheVariants.{Failed as failed, Memory as memory}
+use Rattle.bk_disk.specs.declared.errors.Failed.{Failed as Fault}
+use Rattle.bk_disk.specs.declared.errors.DiskError.{DiskError}
+use Rattle.bk_disk.specs.declared.errors.DiskError.TheVariants.{Failed as failed, Memory as memory}
 use Rattle.bk_disk.specs.Told.{Told}
 use Rattle.bk_memdisk.specs.Plans.{Planned}
 use Rattle.bk_memdisk.specs.declared.disks.MemDisk.{MemDisk}
@@ -12,7 +12,7 @@ use Rattle.bk_memdisk.specs.declared.disks.MemDisk.{MemDisk}
 abbrev pub told_by : MemDisk → Told
 told_by d = d.directory.told
 
--- which calls fail, and which views are weak
+-- which calls fail, and which views are fallible
 abbrev pub calls_of : MemDisk → Planned
 calls_of d = d.calls
 
@@ -22,16 +22,16 @@ views_of d = d.views
 abbrev pub faults_of : MemDisk → ℕ
 faults_of d = d.faults
 
-abbrev pub weak_views_of : MemDisk → ℕ
-weak_views_of d = d.weak_views
+abbrev pub fallible_views_of : MemDisk → ℕ
+fallible_views_of d = d.fallible_views
 
 abbrev pub SamePlans : MemDisk → MemDisk → Type 0
 SamePlans old new = (calls_of new ≡ calls_of old) × (views_of new ≡ views_of old)
 
 abbrev pub SameCounts : MemDisk → MemDisk → Type 0
-SameCounts old new = (faults_of new ≡ faults_of old) × (weak_views_of new ≡ weak_views_of old)
+SameCounts old new = (faults_of new ≡ faults_of old) × (fallible_views_of new ≡ fallible_views_of old)
 
--- A call fails exactly where it was chosen, and is then done where its effect isn't 0. Want of
+-- A call fails exactly where it was chosen, and is then done where its effect isn't 0. Out of
 -- memory leaves all as it was.
 abbrev pub Answers : {T : Type 0} → Option ℕ → Result T DiskError → Type 0 → Type 0 → Type 0
 Answers None (Ok v) done same = done

@@ -4,7 +4,7 @@ use Rattle.std.proofs.Common.{zero, suc}
 use Rattle.bk_base.specs.declared.names.Name.{Name}
 use Rattle.bk_disk.specs.Names.{same}
 use Rattle.bk_disk.specs.Told.{Table, Image}
-use Rattle.bk_disk.specs.Calls.{all_safe}
+use Rattle.bk_disk.specs.Calls.{all_synced}
 use Rattle.bk_memdisk.specs.declared.files.MemFile.{MemFile}
 use Rattle.bk_memdisk.specs.Journal.{Kept}
 
@@ -21,12 +21,12 @@ owed f = (cond (nat_lt 0 f.room) 2 0 + cond f.dirty 1 0) + cond f.lent 1 0
 -- a file stands for what the journal says of it
 pub record Fits (f : MemFile) (k : Kept) : Type 0 where
   pub bytes : f.bytes.items ≡ take (length f.bytes.items) k.text
-  pub synced : f.safe ≤ length f.bytes.items
-  pub safe : k.front.safe ≡ take f.safe f.bytes.items
-  pub reach : length f.bytes.items ≤ k.front.reach
+  pub within : f.synced ≤ length f.bytes.items
+  pub synced : k.front.synced ≡ take f.synced f.bytes.items
+  pub longest : length f.bytes.items ≤ k.front.longest
   pub lent : k.front.lent ≡ f.lent
   -- nothing was handed since the last good sync: a sync changes nothing
-  pub clean : f.dirty ≡ false → k.front ≡ all_safe f.bytes.items k.front
+  pub clean : f.dirty ≡ false → k.front ≡ all_synced f.bytes.items k.front
   pub away : f.lent ≡ true → (f.bytes.items ≡ []) × (f.room ≡ 0)
 
 abbrev pub Tied : List MemFile → Table Kept → Type 0

@@ -2,7 +2,7 @@
 use Rattle.std.specs.Prelude.{ℕ, Bool, List, [], ◌∷◌, ◌++◌, length, take, map}
 use Rattle.bk_disk.specs.Told.{Table, Front, changed, with_name, without, renamed}
 use Rattle.bk_disk.specs.Stops.{front_of}
-use Rattle.bk_disk.specs.Calls.{handed_more, all_safe, fresh, brought_back}
+use Rattle.bk_disk.specs.Calls.{pending_more, all_synced, fresh, brought_back}
 use Rattle.bk_memdisk.specs.declared.changes.Change.{Change}
 use Rattle.bk_memdisk.specs.declared.changes.Change.TheVariants.{Made, Handed, Synced, Returned, Placed, Renamed, Removed}
 use Rattle.bk_memdisk.specs.Contents.{placed}
@@ -15,10 +15,10 @@ pub record Kept : Type 0 where
 abbrev pub handed : ℕ → ℕ → List ℕ → Kept → Kept
 handed from through bytes k =
     let text = take from k.text ++ take through bytes in
-    record { text = text; front = handed_more (length text) bytes k.front }
+    record { text = text; front = pending_more (length text) bytes k.front }
 
 abbrev pub synced : ℕ → Kept → Kept
-synced len k = record { text = take len k.text; front = all_safe (take len k.text) k.front }
+synced len k = record { text = take len k.text; front = all_synced (take len k.text) k.front }
 
 abbrev pub returned : List ℕ → Kept → Kept
 returned bytes k = record { text = bytes; front = brought_back bytes k.front }

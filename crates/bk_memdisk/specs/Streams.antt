@@ -29,7 +29,7 @@ pub record Output : Type 0 where
 pub record Range : Type 0 where
   pub left : List ℕ
   pub faults : ℕ
-  pub weak : Bool
+  pub fallible : Bool
 
 -- a lent file
 pub record Written : Type 0 where

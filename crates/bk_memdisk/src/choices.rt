@@ -18,16 +18,16 @@ pub struct Choice {
 pub(crate) fn left(
     alloc: Global,
     bytes: &[u8],
-    safe: usize,
+    synced: usize,
     choice: &Choice,
 ) -> Result<Vec<u8>, AllocError>
-    requires { safe ≤ length bytes.now }
+    requires { synced ≤ length bytes.now }
     ensures octets { IfOk result (λ left. AreOctets left.items) }
-    ensures left { IfOk result (λ left. left.items ≡ left_of choice.now.keep choice.now.flips.items safe
+    ensures left { IfOk result (λ left. left.items ≡ left_of choice.now.keep choice.now.flips.items synced
         bytes.now) }
 {
-    let part = kept(&bytes[safe..], choice.keep);
-    let mut left = bytes[..safe].to_vec(alloc)?;
+    let part = kept(&bytes[synced..], choice.keep);
+    let mut left = bytes[..synced].to_vec(alloc)?;
     for (offset, byte) in part.iter().enumerate() {
         left.push(flip(*byte, offset as u64, &choice.flips))?;
     }

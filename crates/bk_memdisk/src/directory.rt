@@ -25,7 +25,7 @@ pub(crate) struct Directory {
     // How many entries of the journal are reserved for the files.
     reserved: usize,
     asked: Vec<Listed>,
-    astray: u64,
+    stray_views: u64,
 }
 
 impl Model for Directory {
@@ -50,7 +50,7 @@ impl Directory {
             journal: Vec::new(alloc),
             reserved: 0,
             asked: Vec::new(alloc),
-            astray: 0,
+            stray_views: 0,
         }
     }
 
@@ -79,7 +79,7 @@ impl Directory {
     {
         let mut after = Directory::new(self.alloc);
         for file in &self.files {
-            let bytes = left(self.alloc, &file.bytes, file.safe, choice)?;
+            let bytes = left(self.alloc, &file.bytes, file.synced, choice)?;
             let copy = bytes.to_vec(self.alloc)?;
             after.place(file.name, bytes, copy)?;
         }
@@ -221,7 +221,7 @@ impl Directory {
             ⊎ ¬ (IsWithin name at len self.old.told.image)) }
     {
         let Some(range) = self.range(name, at, len) else {
-            self.astray = self.astray.saturating_add(1);
+            self.stray_views = self.stray_views.saturating_add(1);
             return Err(DiskError::Failed);
         };
         if fails {

@@ -21,7 +21,7 @@ pub struct MemDisk {
     calls: Plan,
     views: Plan,
     faults: u64,
-    weak_views: u64,
+    fallible_views: u64,
     ghost well: { IsTrue (is_well directory.told) },
 }
 
@@ -33,7 +33,7 @@ impl MemDisk {
     ghost use Rattle.bk_disk.specs.Names.{same};
     ghost use Rattle.bk_memdisk.specs.Crash.{crashed};
     ghost use Rattle.bk_memdisk.specs.Plans.{nothing_chosen, chosen, fused};
-    ghost use Rattle.bk_memdisk.specs.Disk.{told_by, calls_of, views_of, faults_of, weak_views_of, SameCounts};
+    ghost use Rattle.bk_memdisk.specs.Disk.{told_by, calls_of, views_of, faults_of, fallible_views_of, SameCounts};
 
     /// An empty disk. Nothing is set to fail.
     pub fn new(alloc: Global) -> MemDisk
@@ -41,7 +41,7 @@ impl MemDisk {
         ensures calls { calls_of result ≡ nothing_chosen }
         ensures views { views_of result ≡ nothing_chosen }
         ensures faults { faults_of result ≡ 0 }
-        ensures weak_views { weak_views_of result ≡ 0 }
+        ensures fallible_views { fallible_views_of result ≡ 0 }
     {
         MemDisk {
             alloc,
@@ -49,7 +49,7 @@ impl MemDisk {
             calls: Plan::new(alloc),
             views: Plan::new(alloc),
             faults: 0,
-            weak_views: 0,
+            fallible_views: 0,
         }
     }
 
@@ -84,7 +84,7 @@ impl MemDisk {
         ensures synced { IfOk result (λ after. IsSynced (told_by after)) }
         ensures nothing_fails { IfOk result (λ after. (calls_of after ≡ nothing_chosen)
             × (views_of after ≡ nothing_chosen)) }
-        ensures counts { IfOk result (λ after. (faults_of after ≡ 0) × (weak_views_of after ≡ 0)) }
+        ensures counts { IfOk result (λ after. (faults_of after ≡ 0) × (fallible_views_of after ≡ 0)) }
     {
         let Ok(directory) = self.directory.crash(choice) else {
             return Err(Memory);
@@ -95,7 +95,7 @@ impl MemDisk {
             calls: Plan::new(self.alloc),
             views: Plan::new(self.alloc),
             faults: 0,
-            weak_views: 0,
+            fallible_views: 0,
         })
     }
 
@@ -172,9 +172,9 @@ impl Disk for MemDisk {
 
     ghost faults = { λ d. d.faults };
 
-    ghost weak_views = { λ d. d.weak_views };
+    ghost fallible_views = { λ d. d.fallible_views };
 
-    ghost weak_outs = { λ _. 0 };
+    ghost fallible_outs = { λ _. 0 };
 
     ghost well = { λ d _. from_test d.directory.told d.well };
 
@@ -187,7 +187,7 @@ impl Disk for MemDisk {
         ensures told { told_by self.new ≡ told_by self.old }
         ensures rooms { (n : Name) → room_of self.old.directory n ≤ room_of self.new.directory n }
         ensures cause { HasCause (faults_of self.old) (faults_of self.new) result }
-        ensures views { self.new.weak_views ≡ self.old.weak_views }
+        ensures views { self.new.fallible_views ≡ self.old.fallible_views }
         ensures failed { IsErrOf result DiskError.Failed ↔ IsSome (next_effect (calls_of self.old)) }
         ensures counted { calls_of self.new ≡ one_later (calls_of self.old) }
         ensures kept_views { views_of self.new ≡ views_of self.old }
@@ -206,9 +206,9 @@ impl Disk for MemDisk {
         ensures memory { IsErrOf result DiskError.Memory → told_by self.new ≡ told_by self.old }
         ensures rooms { (n : Name) → room_of self.old.directory n ≤ room_of self.new.directory n }
         ensures cause { HasCause (faults_of self.old) (faults_of self.new) result }
-        ensures views { IfOk result (λ view. self.new.weak_views ≡ bumped view.weak self.old.weak_views) }
-        ensures no_view { OnErr result (self.new.weak_views ≡ self.old.weak_views) }
-        ensures weak { IfOk result (λ view. view.weak ≡ is_some (next_effect (views_of self.old))) }
+        ensures views { IfOk result (λ view. self.new.fallible_views ≡ bumped view.fallible self.old.fallible_views) }
+        ensures no_view { OnErr result (self.new.fallible_views ≡ self.old.fallible_views) }
+        ensures fallible { IfOk result (λ view. view.fallible ≡ is_some (next_effect (views_of self.old))) }
         ensures counted_views { OnOk result (views_of self.new ≡ one_later (views_of self.old)) }
         ensures kept_views { OnErr result (views_of self.new ≡ views_of self.old) }
         ensures failed { IsErrOf result DiskError.Failed ↔ (IsSome (next_effect (calls_of self.old))
@@ -218,11 +218,11 @@ impl Disk for MemDisk {
         let fails = self.calls.next().is_some();
         match self.directory.view(name, at, len, fails) {
             Ok(bytes) => {
-                let weak = self.views.next().is_some();
-                if weak {
-                    self.weak_views = self.weak_views.saturating_add(1);
+                let fallible = self.views.next().is_some();
+                if fallible {
+                    self.fallible_views = self.fallible_views.saturating_add(1);
                 }
-                Ok(MemView::new(bytes, weak))
+                Ok(MemView::new(bytes, fallible))
             }
             Err(DiskError::Failed) => Err(fault(&mut self.faults).into()),
             Err(DiskError::Memory) => Err(DiskError::Memory),
@@ -237,7 +237,7 @@ impl Disk for MemDisk {
         ensures memory { IsErrOf result DiskError.Memory → told_by self.new ≡ told_by self.old }
         ensures rooms { (n : Name) → room_of self.old.directory n ≤ room_of self.new.directory n }
         ensures cause { HasCause (faults_of self.old) (faults_of self.new) result }
-        ensures views { self.new.weak_views ≡ self.old.weak_views }
+        ensures views { self.new.fallible_views ≡ self.old.fallible_views }
         ensures answers { Answers (next_effect (calls_of self.old)) result
             (Made name false (told_by self.old) (told_by self.new))
             (told_by self.new ≡ told_by self.old) }
@@ -261,7 +261,7 @@ impl Disk for MemDisk {
         ensures told { told_by self.new ≡ told_by self.old }
         ensures rooms { (n : Name) → room_of self.old.directory n ≤ room_of self.new.directory n }
         ensures faults { faults_of self.new ≡ faults_of self.old }
-        ensures views { self.new.weak_views ≡ self.old.weak_views }
+        ensures views { self.new.fallible_views ≡ self.old.fallible_views }
         ensures plans { SamePlans self.old self.new }
     {
         self.directory
@@ -279,7 +279,7 @@ impl Disk for MemDisk {
         ensures rooms { (n : Name) → same n name ≡ false → room_of self.old.directory n
             ≤ room_of self.new.directory n }
         ensures cause { IsCaused (faults_of self.old) (faults_of self.new) result }
-        ensures views { self.new.weak_views ≡ self.old.weak_views }
+        ensures views { self.new.fallible_views ≡ self.old.fallible_views }
         ensures failed { IsErr result ↔ IsSome (next_effect (calls_of self.old)) }
         ensures through { IfSome (next_effect (calls_of self.old))
             (λ effect. Appended name (min effect (length piece.now)) piece.now
@@ -308,7 +308,7 @@ impl Disk for MemDisk {
             ⊎ Cut name len (told_by self.old) (told_by self.new)) }
         ensures rooms { (n : Name) → room_of self.old.directory n ≤ room_of self.new.directory n }
         ensures cause { IsCaused (faults_of self.old) (faults_of self.new) result }
-        ensures views { self.new.weak_views ≡ self.old.weak_views }
+        ensures views { self.new.fallible_views ≡ self.old.fallible_views }
         ensures fails { Fails (next_effect (calls_of self.old)) result
             (Cut name len (told_by self.old) (told_by self.new))
             (told_by self.new ≡ told_by self.old) }
@@ -334,7 +334,7 @@ impl Disk for MemDisk {
         ensures err { OnErr result (told_by self.new ≡ told_by self.old) }
         ensures rooms { (n : Name) → room_of self.old.directory n ≤ room_of self.new.directory n }
         ensures cause { IsCaused (faults_of self.old) (faults_of self.new) result }
-        ensures views { self.new.weak_views ≡ self.old.weak_views }
+        ensures views { self.new.fallible_views ≡ self.old.fallible_views }
         ensures failed { IsErr result ↔ IsSome (next_effect (calls_of self.old)) }
         ensures counted { calls_of self.new ≡ one_later (calls_of self.old) }
         ensures kept_views { views_of self.new ≡ views_of self.old }
@@ -355,7 +355,7 @@ impl Disk for MemDisk {
         ensures memory { IsErrOf result DiskError.Memory → told_by self.new ≡ told_by self.old }
         ensures rooms { (n : Name) → room_of self.old.directory n ≤ room_of self.new.directory n }
         ensures cause { HasCause (faults_of self.old) (faults_of self.new) result }
-        ensures views { self.new.weak_views ≡ self.old.weak_views }
+        ensures views { self.new.fallible_views ≡ self.old.fallible_views }
         ensures answers { Answers (next_effect (calls_of self.old)) result
             (Made name true (told_by self.old) (told_by self.new))
             (told_by self.new ≡ told_by self.old) }
@@ -381,7 +381,7 @@ impl Disk for MemDisk {
         ensures returned { Returned out.name out.bytes (told_by self.old) (told_by self.new) }
         ensures rooms { (n : Name) → room_of self.old.directory n ≤ room_of self.new.directory n }
         ensures faults { faults_of self.new ≡ faults_of self.old }
-        ensures views { self.new.weak_views ≡ self.old.weak_views }
+        ensures views { self.new.fallible_views ≡ self.old.fallible_views }
         ensures plans { SamePlans self.old self.new }
     {
         let (name, bytes, copy) = out.into_parts();
@@ -397,7 +397,7 @@ impl Disk for MemDisk {
         ensures rooms { (n : Name) → same n from ≡ false → same n to ≡ false → room_of self.old.directory n
             ≤ room_of self.new.directory n }
         ensures cause { HasCause (faults_of self.old) (faults_of self.new) result }
-        ensures views { self.new.weak_views ≡ self.old.weak_views }
+        ensures views { self.new.fallible_views ≡ self.old.fallible_views }
         ensures answers { Answers (next_effect (calls_of self.old)) result
             (Renamed from to (told_by self.old) (told_by self.new))
             (told_by self.new ≡ told_by self.old) }
@@ -422,7 +422,7 @@ impl Disk for MemDisk {
         ensures rooms { (n : Name) → same n name ≡ false → room_of self.old.directory n
             ≤ room_of self.new.directory n }
         ensures cause { HasCause (faults_of self.old) (faults_of self.new) result }
-        ensures views { self.new.weak_views ≡ self.old.weak_views }
+        ensures views { self.new.fallible_views ≡ self.old.fallible_views }
         ensures answers { Answers (next_effect (calls_of self.old)) result
             (Removed name (told_by self.old) (told_by self.new))
             (told_by self.new ≡ told_by self.old) }

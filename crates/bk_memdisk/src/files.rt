@@ -16,7 +16,7 @@ pub(crate) struct MemFile {
     pub(crate) spare: Vec<u8>,
     pub(crate) room: usize,
     // The length of its synced bytes.
-    pub(crate) safe: usize,
+    pub(crate) synced: usize,
     // Bytes were handed to it since its last good sync.
     pub(crate) dirty: bool,
     pub(crate) lent: bool,
@@ -42,7 +42,7 @@ impl MemFile {
             bytes: Vec::new(alloc),
             spare: Vec::new(alloc),
             room: 0,
-            safe: 0,
+            synced: 0,
             dirty: false,
             lent,
         }
@@ -58,7 +58,7 @@ impl MemFile {
     {
         MemFile {
             name,
-            safe: bytes.len(),
+            synced: bytes.len(),
             bytes,
             spare: Vec::new(alloc),
             room: 0,
@@ -131,7 +131,7 @@ impl MemFile {
     }
 
     pub(crate) fn cut(&mut self, len: usize)
-        requires { self.old.safe ≤ len }
+        requires { self.old.synced ≤ len }
         ensures name { self.new.name ≡ self.old.name }
         ensures bytes { self.new.bytes.items ≡ take len self.old.bytes.items }
         ensures fits { (k : Kept) → Fits self.old k → Fits self.new k }
@@ -150,7 +150,7 @@ impl MemFile {
         ensures room { self.new.room ≡ self.old.room }
         ensures owed { self.old.dirty ≡ true → owed self.new + 1 ≡ owed self.old }
     {
-        self.safe = self.bytes.len();
+        self.synced = self.bytes.len();
         self.dirty = false;
         Change::Synced {
             name: self.name,
@@ -169,7 +169,7 @@ impl MemFile {
         ensures room { self.new.room ≡ 0 }
         ensures owed { owed self.new + 1 ≤ owed self.old }
     {
-        self.safe = bytes.len();
+        self.synced = bytes.len();
         self.room = 0;
         self.bytes = bytes;
         self.dirty = false;

@@ -61,7 +61,7 @@ impl Out for MemOut {
 
     ghost faults = { λ _. 0 };
 
-    ghost weak = { λ _. false };
+    ghost fallible = { λ _. false };
 
     fn append(&mut self, piece: &[u8]) -> Result<(), DiskError> {
         self.bytes.reserve(piece.len())?;

@@ -6,13 +6,13 @@ ghost use Rattle.bk_disk.specs.Streams.{Gives};
 use bk_disk::{Failed, View};
 use std::marker::Model;
 
-/// The bytes of a range. Each read of a weak one fails.
+/// The bytes of a range. Each read of a fallible one fails.
 #[derive(Drop)]
 pub struct MemView {
     bytes: Vec<u8>,
     taken: usize,
     faults: u64,
-    weak: bool,
+    fallible: bool,
 }
 
 impl Model for MemView {
@@ -21,20 +21,20 @@ impl Model for MemView {
 
     ghost Value = { Range };
 
-    ghost view = { λ v. record { left = drop v.taken v.bytes.items; faults = v.faults; weak = v.weak } };
+    ghost view = { λ v. record { left = drop v.taken v.bytes.items; faults = v.faults; fallible = v.fallible } };
 
     ghost invariant = { λ v. v.taken ≤ length v.bytes.items };
 }
 
 impl MemView {
-    pub(crate) fn new(bytes: Vec<u8>, weak: bool) -> MemView
-        ensures { result ≡ record { left = bytes.items; faults = 0; weak = weak } }
+    pub(crate) fn new(bytes: Vec<u8>, fallible: bool) -> MemView
+        ensures { result ≡ record { left = bytes.items; faults = 0; fallible = fallible } }
     {
         MemView {
             bytes,
             taken: 0,
             faults: 0,
-            weak,
+            fallible,
         }
     }
 }
@@ -50,21 +50,21 @@ impl View for MemView {
 
     ghost faults = { λ v. v.faults };
 
-    ghost weak = { λ v. v.weak };
+    ghost fallible = { λ v. v.fallible };
 
     fn read(&mut self, into: &mut [u8]) -> Result<usize, Failed>
-        ensures failed { IsErr result ↔ IsTrue self.old.weak }
+        ensures failed { IsErr result ↔ IsTrue self.old.fallible }
         ensures within { IfOk result (λ n. n ≤ length into.new) }
         ensures some { IfOk result (λ n. 0 < length self.old.left → 0 < length into.new → 0 < n) }
         ensures rest { IfOk result (λ n. length self.old.left ≡ n + length self.new.left) }
         ensures bytes { IfOk result (λ n. Gives self.old.left self.new.left n into.new) }
         ensures kept { OnErr result (self.new.left ≡ self.old.left) }
         ensures cause { IsCaused self.old.faults self.new.faults result }
-        ensures strong { self.old.weak ≡ false → IsOk result }
-        ensures same_faults { self.old.weak ≡ false → self.new.faults ≡ self.old.faults }
-        ensures weak { self.new.weak ≡ self.old.weak }
+        ensures strong { self.old.fallible ≡ false → IsOk result }
+        ensures same_faults { self.old.fallible ≡ false → self.new.faults ≡ self.old.faults }
+        ensures fallible { self.new.fallible ≡ self.old.fallible }
     {
-        if self.weak {
+        if self.fallible {
             self.faults = self.faults.saturating_add(1);
             return Err(Failed);
         }

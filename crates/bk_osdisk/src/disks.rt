@@ -1,10 +1,10 @@
 //! The files of a folder as a disk.
 ghost use Rattle.std.specs.Prelude.{◌≡◌, IfOk};
 
+use crate::errors::OsRefused;
 use crate::faults::Faults;
 use crate::folders::Folder;
 use crate::outs::OsOut;
-use crate::refusals::OsRefused;
 use crate::views::OsView;
 use bk_base::{Memory, Name};
 use bk_disk::{Disk, DiskError, Failed, Listed};
@@ -17,8 +17,8 @@ use std::fs::{File, Files};
 pub struct OsDisk<R: Files<File = File> + Alloc<A = Global> + Clone + Drop> {
     folder: Folder<R>,
     faults: Faults,
-    weak_views: u64,
-    weak_outs: u64,
+    fallible_views: u64,
+    fallible_outs: u64,
 }
 
 impl<R: Files<File = File> + Alloc<A = Global> + Clone + Drop> OsDisk<R> {
@@ -30,8 +30,8 @@ impl<R: Files<File = File> + Alloc<A = Global> + Clone + Drop> OsDisk<R> {
         Ok(OsDisk {
             folder: Folder::open(rt, dir)?,
             faults: Faults::none(),
-            weak_views: 0,
-            weak_outs: 0,
+            fallible_views: 0,
+            fallible_outs: 0,
         })
     }
 }
@@ -52,9 +52,9 @@ impl<R: Files<File = File> + Alloc<A = Global> + Clone + Drop> Disk for OsDisk<R
 
     ghost faults = { λ d. d.faults.count };
 
-    ghost weak_views = { λ d. d.weak_views };
+    ghost fallible_views = { λ d. d.fallible_views };
 
-    ghost weak_outs = { λ d. d.weak_outs };
+    ghost fallible_outs = { λ d. d.fallible_outs };
 
     ghost well = { λ _ h. untold h };
 
@@ -70,7 +70,7 @@ impl<R: Files<File = File> + Alloc<A = Global> + Clone + Drop> Disk for OsDisk<R
     fn view(&mut self, name: Name, at: u64, len: u64) -> Result<OsView, DiskError> {
         let done = self.folder.view(name, at, len);
         let view = self.faults.told_apart(done)?;
-        self.weak_views = self.weak_views.saturating_add(1);
+        self.fallible_views = self.fallible_views.saturating_add(1);
         Ok(view)
     }
 
@@ -101,7 +101,7 @@ impl<R: Files<File = File> + Alloc<A = Global> + Clone + Drop> Disk for OsDisk<R
     fn lend(&mut self, name: Name) -> Result<OsOut, DiskError> {
         let done = self.folder.lend(name);
         let out = self.faults.told_apart(done)?;
-        self.weak_outs = self.weak_outs.saturating_add(1);
+        self.fallible_outs = self.fallible_outs.saturating_add(1);
         Ok(out)
     }
 

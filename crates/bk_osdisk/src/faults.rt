@@ -71,7 +71,7 @@ impl Faults {
         Failed
     }
 
-    /// Counts whatever went wrong, for a call that has no answer for want of memory.
+    /// Counts whatever went wrong, for a call that has no answer for out of memory.
     pub(crate) fn counted<T: Drop>(&mut self, done: Result<T, Trouble>) -> Result<T, Failed>
         ensures value { IfOk result (λ value. done ≡ Ok value) }
         ensures same { OnOk result (self.new.count ≡ self.old.count) }
@@ -83,7 +83,7 @@ impl Faults {
         }
     }
 
-    /// Counts a fault, and passes want of memory on.
+    /// Counts a fault, and passes out of memory on.
     pub(crate) fn told_apart<T: Drop>(&mut self, done: Result<T, Trouble>) -> Result<T, DiskError>
         ensures value { IfOk result (λ value. done ≡ Ok value) }
         ensures same { OnOk result (self.new.count ≡ self.old.count) }

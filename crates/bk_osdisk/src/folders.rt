@@ -2,9 +2,9 @@
 ghost use Rattle.std.specs.Prelude.{◌≡◌, IsTrue, IfOk};
 ghost use Rattle.bk_base.specs.Names.{IsListed};
 
+use crate::errors::OsRefused;
 use crate::faults::Trouble;
 use crate::outs::OsOut;
-use crate::refusals::OsRefused;
 use crate::views::OsView;
 use bk_base::{Kind, Name};
 use bk_disk::Listed;
@@ -234,7 +234,7 @@ fn taken_lock<R: Files<File = File>>(rt: &R, path: &str) -> Result<File, OsRefus
     }
 }
 
-/// Where the standard library allocates within a call, want of memory comes as its error.
+/// Where the standard library allocates within a call, out of memory comes as its error.
 fn trouble_of(error: io::Error) -> Trouble {
     if error.kind() == ErrorKind::OutOfMemory {
         Trouble::Memory

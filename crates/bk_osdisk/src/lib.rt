@@ -8,10 +8,10 @@
 
 mod clocks;
 mod disks;
+mod errors;
 mod faults;
 mod folders;
 mod outs;
-mod refusals;
 mod sinks;
 mod sources;
 #[cfg(test)]
@@ -20,8 +20,8 @@ mod views;
 
 pub use clocks::OsClock;
 pub use disks::OsDisk;
+pub use errors::OsRefused;
 pub use outs::OsOut;
-pub use refusals::OsRefused;
 pub use sinks::OsSink;
 pub use sources::OsSource;
 pub use views::OsView;

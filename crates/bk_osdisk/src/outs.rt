@@ -40,7 +40,7 @@ impl Out for OsOut {
 
     ghost faults = { λ o. o.faults.count };
 
-    ghost weak = { λ _. true };
+    ghost fallible = { λ _. true };
 
     fn append(&mut self, piece: &[u8]) -> Result<(), DiskError> {
         let done = self.file.write_all(piece).map_err(Trouble::from);

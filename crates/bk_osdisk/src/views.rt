@@ -59,7 +59,7 @@ impl View for OsView {
 
     ghost faults = { λ v. v.faults.count };
 
-    ghost weak = { λ _. true };
+    ghost fallible = { λ _. true };
 
     fn read(&mut self, into: &mut [u8]) -> Result<usize, Failed> {
         let want = self.left.min(into.len() as u64) as usize;

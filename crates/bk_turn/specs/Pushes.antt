@@ -5,11 +5,11 @@ use Rattle.bk_base.specs.declared.calls.Answer.TheVariants.{Done}
 use Rattle.bk_base.specs.declared.histories.Step.{Step}
 use Rattle.bk_turn.specs.declared.views.View.{View}
 use Rattle.bk_turn.specs.History.{Advances}
-use Rattle.bk_turn.specs.Seats.{blank_glance}
+use Rattle.bk_turn.specs.Seats.{blank_snapshot}
 
 -- the push of a number by a caller
 abbrev pub push_step : ℕ → ℕ → Step
-push_step caller number = record { entry = record { caller = caller; call = Quiet; reply = Done }; faults = number; views = 0; outs = 0; at = None; glance = blank_glance; clean = false }
+push_step caller number = record { entry = record { caller = caller; call = Quiet; reply = Done }; faults = number; views = 0; outs = 0; at = None; snapshot = blank_snapshot; clean = false }
 
 -- the number that a step pushed
 abbrev pub pushed : Step → ℕ

@@ -5,7 +5,7 @@ use mathlib.Core.Option.{some}
 use lib.ListN.{get_elem?}
 use Rattle.bk_base.specs.declared.calls.Call.TheVariants.{Quiet}
 use Rattle.bk_base.specs.declared.calls.Answer.TheVariants.{Done}
-use Rattle.bk_base.specs.declared.histories.Glance.{Glance}
+use Rattle.bk_base.specs.declared.histories.Snapshot.{Snapshot}
 use Rattle.bk_base.specs.declared.histories.Opening.{Opening}
 use Rattle.bk_base.specs.declared.histories.Step.{Step}
 use Rattle.bk_turn.specs.declared.views.View.{View}
@@ -16,14 +16,14 @@ use Rattle.bk_turn.specs.declared.seats.Stage.TheVariants.{Fresh, Filling, Idle,
 use Rattle.bk_turn.specs.History.{own_of, IsApart, longer, opening_view, split_view}
 
 -- what stands in until the call that knows better picks its own
-abbrev pub blank_glance : Glance
-blank_glance = record { rows = []; written = []; job = None; last_file = record { 0 = 0 } }
+abbrev pub blank_snapshot : Snapshot
+blank_snapshot = record { rows = []; written = []; job = None; last_file = record { 0 = 0 } }
 
 abbrev pub blank_opening : Opening
-blank_opening = record { log = []; folds = []; glance = blank_glance; settings = record { dead_bytes = 0; max_file = 0; ttl = 0; dead_percent = 0 }; faults = 0; views = 0; outs = 0; whole = false }
+blank_opening = record { log = []; folds = []; snapshot = blank_snapshot; settings = record { dead_bytes = 0; max_file = 0; ttl = 0; dead_percent = 0 }; faults = 0; views = 0; outs = 0; whole = false }
 
 abbrev pub blank_step : Step
-blank_step = record { entry = record { caller = 0; call = Quiet; reply = Done }; faults = 0; views = 0; outs = 0; at = None; glance = blank_glance; clean = false }
+blank_step = record { entry = record { caller = 0; call = Quiet; reply = Done }; faults = 0; views = 0; outs = 0; at = None; snapshot = blank_snapshot; clean = false }
 
 -- the note of a seat that has joined nobody
 abbrev pub plain_note : View → Note

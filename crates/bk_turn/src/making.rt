@@ -15,7 +15,7 @@ use std::marker::Brand;
 
 impl<S: Stands> Turn<S> {
     /// A turn with this value, and its first pass, which has all the weight. Places are counted from
-    /// `first`, the length of the history before the opening. `NoTurn` is want of memory.
+    /// `first`, the length of the history before the opening. `NoTurn` is out of memory.
     pub fn new(alloc: Global, value: S, first: u64) -> Result<Opened<S>, NoTurn<S>>
         ghost opening: { Opening }
         requires { S.stands value first opening [] }

@@ -60,7 +60,7 @@ impl Reader {
         }
     }
 
-    /// Takes the next piece of the stream. On want of memory the reader is as it was.
+    /// Takes the next piece of the stream. Out of memory, the reader is as it was.
     pub fn take(&mut self, piece: &[u8]) -> Result<(), Memory>
         requires { taken self.old + length piece.now ≤ self.old.most }
         ensures ok { OnOk result (self.new ≡ record self.old { rest = self.old.rest ++ piece.now }) }
@@ -70,7 +70,7 @@ impl Reader {
         self.bytes.extend_from_slice(piece).map_err(|_| Memory)
     }
 
-    /// Reads the request at the front. Want of memory comes only where a request stands there, and
+    /// Reads the request at the front. `Memory` comes only where a request stands there, and
     /// leaves the reader as it was.
     pub fn next(&mut self) -> Result<Next, Memory>
         ensures ok { IfOk result (λ next. Answers next self.old self.new) }

@@ -36,7 +36,7 @@ fn reserve(out: &mut Vec<u8>, len: usize) -> Result<(), Memory>
     out.reserve(len).map_err(|_| Memory)
 }
 
-/// Writes a reply at the end of `out`. On want of memory `out` is as it was.
+/// Writes a reply at the end of `out`. Out of memory, `out` is as it was.
 #[tactic(auto, using(std::proofs::lemmas::List::append_assoc), unfolding(bk_laws::specs::Wire::reply_text))]
 pub fn write_reply(reply: &Reply, out: &mut Vec<u8>) -> Result<(), Memory>
     ensures ok { OnOk result (out.new.items ≡ out.old.items ++ reply_text reply.now) }

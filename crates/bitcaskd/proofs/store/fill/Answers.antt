@@ -23,5 +23,5 @@ loop-at-preserved g c =
           ((c.in_ok-at.ensures.bytes tells).bytes ∙ ap (λ (l : List ℕ). take n l) (c.loop-at.invariant.left tells));
       left = λ tells. (c.in_ok-at.ensures.bytes tells).others ∙ ap (λ (l : List ℕ). drop n l) (c.loop-at.invariant.left tells)
           ∙ drop-drop n at (g.V.View.left c.args.view.now);
-      weak = c.read.ensures.weak ∙ c.loop-at.invariant.weak;
+      fallible = c.read.ensures.fallible ∙ c.loop-at.invariant.fallible;
     }

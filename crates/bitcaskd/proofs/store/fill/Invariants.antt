@@ -7,7 +7,7 @@ invariant-loop-at g l = record {
   rest : l.at + g.V.View.rest l.view ≡ length l.into;
   bytes : IsTrue g.V.View.tells → take l.at l.into ≡ take l.at (g.V.View.left l.initial.view);
   left : IsTrue g.V.View.tells → g.V.View.left l.view ≡ drop l.at (g.V.View.left l.initial.view);
-  weak : g.V.View.weak l.view ≡ g.V.View.weak l.initial.view;
+  fallible : g.V.View.fallible l.view ≡ g.V.View.fallible l.initial.view;
 }
 
 abbrev pub decreases-loop-at : goal.decreases-loop-at

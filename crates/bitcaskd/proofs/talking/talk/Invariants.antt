@@ -1,5 +1,5 @@
 use Rattle.std.proofs.Common.{◌≤◌, List, IsTrue}
-use Rattle.bk_laws.specs.Session.{Turn}
+use Rattle.bk_laws.specs.Session.{Exchange}
 use Rattle.bitcaskd.specs.Run.{telling}
 use Rattle.bitcaskd.specs.Store.{Stands}
 use Rattle.bitcaskd.specs.Serving.{site_of}
@@ -13,10 +13,10 @@ invariant-turns g l = record {
   faults : g.D.Disk.faults l.initial.store.files.disk ≤ g.D.Disk.faults l.store.files.disk;
   took : g.S.Source.faults l.initial.source ≤ g.S.Source.faults l.source;
   wrote : g.K.Sink.faults l.initial.sink ≤ g.K.Sink.faults l.sink;
-  so_far : (turns : List Turn) × SoFar (telling g.D.Disk.tells g.S.Source.tells g.K.Sink.tells g.C.Clock.tells)
-      (scene_of (site_of (g.D.Disk.told l.initial.store.files.disk) l.initial.store.files.catalog l.initial.store.index (g.D.Disk.faults l.initial.store.files.disk) (g.D.Disk.weak_views l.initial.store.files.disk) (g.C.Clock.moments l.initial.clock))
+  so_far : (turns : List Exchange) × SoFar (telling g.D.Disk.tells g.S.Source.tells g.K.Sink.tells g.C.Clock.tells)
+      (scene_of (site_of (g.D.Disk.told l.initial.store.files.disk) l.initial.store.files.catalog l.initial.store.index (g.D.Disk.faults l.initial.store.files.disk) (g.D.Disk.fallible_views l.initial.store.files.disk) (g.C.Clock.moments l.initial.clock))
       (g.S.Source.whole l.initial.source) (g.S.Source.taken l.initial.source) (g.K.Sink.written l.initial.sink) (g.K.Sink.faults l.initial.sink))
-      (scene_of (site_of (g.D.Disk.told l.store.files.disk) l.store.files.catalog l.store.index (g.D.Disk.faults l.store.files.disk) (g.D.Disk.weak_views l.store.files.disk) (g.C.Clock.moments l.clock))
+      (scene_of (site_of (g.D.Disk.told l.store.files.disk) l.store.files.catalog l.store.index (g.D.Disk.faults l.store.files.disk) (g.D.Disk.fallible_views l.store.files.disk) (g.C.Clock.moments l.clock))
       (g.S.Source.whole l.source) (g.S.Source.taken l.source) (g.K.Sink.written l.sink) (g.K.Sink.faults l.sink))
       l.desk.reader l.desk.replies.items turns;
 }

@@ -7,9 +7,9 @@ use Rattle.bk_memdisk.proofs.choices.left.Goals as goal
 
 pub loop-offset-init : goal.loop-offset-init
 loop-offset-init c =
-    let start : c.in_ok-left.left.items ≡ take c.args.safe c.args.bytes.now = grind (arith, common_steps) in
+    let start : c.in_ok-left.left.items ≡ take c.args.synced c.args.bytes.now = grind (arith, common_steps) in
     let octets : AreOctets c.args.bytes.now = λ i. omega (arith, c.type_inv.bytes i) in
-    (start ∙ sym (append-nil (take c.args.safe c.args.bytes.now)), subst AreOctets (sym start) (Left.octets_take c.args.safe c.args.bytes.now octets))
+    (start ∙ sym (append-nil (take c.args.synced c.args.bytes.now)), subst AreOctets (sym start) (Left.octets_take c.args.synced c.args.bytes.now octets))
 
 pub loop-offset-preserved : goal.loop-offset-preserved
 loop-offset-preserved c =
@@ -17,7 +17,7 @@ loop-offset-preserved c =
     let small : c.flip.result < 256 = omega arith in (
       c.in_ok-push.ensures.items
           ∙ ap (λ bs. bs ++ c.flip.result ∷ []) c.loop-offset.invariant.0
-          ∙ ap (λ b. take c.args.safe c.args.bytes.now ++ all_flipped c.args.choice.now.flips.items 0 (take c.loop-offset.offset c.kept-part.result.now) ++ b ∷ []) byte
-          ∙ sym (Left.left_more c.args.choice.now.flips.items (take c.args.safe c.args.bytes.now) c.kept-part.result.now c.loop-offset.offset 0 c.loop-offset-test.true),
+          ∙ ap (λ b. take c.args.synced c.args.bytes.now ++ all_flipped c.args.choice.now.flips.items 0 (take c.loop-offset.offset c.kept-part.result.now) ++ b ∷ []) byte
+          ∙ sym (Left.left_more c.args.choice.now.flips.items (take c.args.synced c.args.bytes.now) c.kept-part.result.now c.loop-offset.offset 0 c.loop-offset-test.true),
       subst AreOctets (sym c.in_ok-push.ensures.items) (Left.octets_push c.loop-offset.left.items c.flip.result c.loop-offset.invariant.1 small),
     )

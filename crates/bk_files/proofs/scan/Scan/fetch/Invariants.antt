@@ -12,7 +12,7 @@ invariant-loop-self g l = record {
   file : l.self.file ≡ l.initial.self.file;
   len : file_len l.self ≡ file_len l.initial.self;
   later : g.V.View.faults l.initial.view ≤ g.V.View.faults l.view;
-  weak : g.V.View.weak l.view ≡ g.V.View.weak l.initial.view;
+  fallible : g.V.View.fallible l.view ≡ g.V.View.fallible l.initial.view;
 }
 
 abbrev pub decreases-loop-self : goal.decreases-loop-self

@@ -26,7 +26,7 @@ pub returns-clause-told : goal.returns-clause-told
 returns-clause-told c =
     let first = rw c.deref.ensures.value at c.place_of-index.ensures.first in
     rw (← c.self.view_is)
-    (Edits.returned_told c.args.name c.self.inside.files.items c.self.inside.journal.items c.place_of-index.result c.index_mut-file.result.now c.self.invariant.tied first c.index_mut-file.ensures.value c.self.inside.asked.items c.self.inside.astray c.adopt-change.new.self c.adopt-change.result c.push_reserved.new.self.items c.push_reserved.ensures.items c.adopt-change.ensures.name c.args.bytes.items c.adopt-change.ensures.fits c.adopt-change.ensures.change c.adopt-change.ensures.bytes)
+    (Edits.returned_told c.args.name c.self.inside.files.items c.self.inside.journal.items c.place_of-index.result c.index_mut-file.result.now c.self.invariant.tied first c.index_mut-file.ensures.value c.self.inside.asked.items c.self.inside.stray_views c.adopt-change.new.self c.adopt-change.result c.push_reserved.new.self.items c.push_reserved.ensures.items c.adopt-change.ensures.name c.args.bytes.items c.adopt-change.ensures.fits c.adopt-change.ensures.change c.adopt-change.ensures.bytes)
 
 pub returns-clause-rooms : goal.returns-clause-rooms
 returns-clause-rooms c n =

@@ -9,7 +9,7 @@ pub returns-then-is_empty-clause-told : goal.returns-then-is_empty-clause-told
 returns-then-is_empty-clause-told c =
     let first = rw c.deref.ensures.value at c.place_of-index.ensures.first in
     let empty = Edits.empty_from c.args.piece.now c.is_empty.result c.is_empty.ensures c.if-is_empty.true in
-    rw (empty, ← c.self.view_is, Edits.set_same c.self.inside.files.items c.place_of-index.result c.index_mut-file.result.now c.index_mut-file.ensures.value) (Edits.appended_nothing c.args.name c.self.inside.files.items c.self.inside.journal.items c.place_of-index.result c.index_mut-file.result.now c.self.invariant.tied first c.index_mut-file.ensures.value c.self.inside.asked.items c.self.inside.astray c.args.through)
+    rw (empty, ← c.self.view_is, Edits.set_same c.self.inside.files.items c.place_of-index.result c.index_mut-file.result.now c.index_mut-file.ensures.value) (Edits.appended_nothing c.args.name c.self.inside.files.items c.self.inside.journal.items c.place_of-index.result c.index_mut-file.result.now c.self.invariant.tied first c.index_mut-file.ensures.value c.self.inside.asked.items c.self.inside.stray_views c.args.through)
 
 pub append-change-requires-clause-ours : goal.append-change-requires-clause-ours
 append-change-requires-clause-ours c =
@@ -49,7 +49,7 @@ pub returns-clause-told : goal.returns-clause-told
 returns-clause-told c =
     let first = rw c.deref.ensures.value at c.place_of-index.ensures.first in
     rw (← c.self.view_is)
-    (Edits.appended_told c.args.name c.self.inside.files.items c.self.inside.journal.items c.place_of-index.result c.index_mut-file.result.now c.self.invariant.tied first c.index_mut-file.ensures.value c.self.inside.asked.items c.self.inside.astray c.append-change.new.self c.append-change.result c.push_reserved.new.self.items c.push_reserved.ensures.items c.append-change.ensures.name c.args.through c.args.piece.now c.append-change.ensures.fits c.append-change.ensures.change c.append-change.ensures.bytes)
+    (Edits.appended_told c.args.name c.self.inside.files.items c.self.inside.journal.items c.place_of-index.result c.index_mut-file.result.now c.self.invariant.tied first c.index_mut-file.ensures.value c.self.inside.asked.items c.self.inside.stray_views c.append-change.new.self c.append-change.result c.push_reserved.new.self.items c.push_reserved.ensures.items c.append-change.ensures.name c.args.through c.args.piece.now c.append-change.ensures.fits c.append-change.ensures.change c.append-change.ensures.bytes)
 
 pub returns-clause-rooms : goal.returns-clause-rooms
 returns-clause-rooms c n other =

@@ -23,7 +23,7 @@ invariant_of-self c =
 pub returns-clause-told : goal.returns-clause-told
 returns-clause-told c =
     let first = rw c.deref.ensures.value at c.place_of-index.ensures.first in
-    rw (← c.self.view_is) (Edits.cut_told c.args.name c.self.inside.files.items c.self.inside.journal.items c.place_of-index.result c.index_mut-file.result.now c.self.invariant.tied first c.index_mut-file.ensures.value c.self.inside.asked.items c.self.inside.astray c.cut.new.self c.args.len c.cut.ensures.name c.cut.ensures.bytes)
+    rw (← c.self.view_is) (Edits.cut_told c.args.name c.self.inside.files.items c.self.inside.journal.items c.place_of-index.result c.index_mut-file.result.now c.self.invariant.tied first c.index_mut-file.ensures.value c.self.inside.asked.items c.self.inside.stray_views c.cut.new.self c.args.len c.cut.ensures.name c.cut.ensures.bytes)
 
 pub returns-clause-rooms : goal.returns-clause-rooms
 returns-clause-rooms c n =

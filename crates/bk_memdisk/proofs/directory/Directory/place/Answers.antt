@@ -13,14 +13,14 @@ returns-in_default-clause-ok c =
     let absent = rw c.deref.ensures.value at (Listings.not_there c.args.name c.deref.result.now (sym c.find.ensures.place ∙ c.in_default.is)) in
     let more = rw c.reserve.ensures.items at c.push_reserved.ensures.items in
     let word = ap (λ bytes. placed c.args.name (whole bytes) (after_all [] c.self.inside.journal.items)) c.requires in
-    rw (← c.self.view_is, c.in_ok-push.ensures.items) (Listings.put_told c.args.name c.self.inside.files.items c.self.inside.journal.items c.push_reserved.new.self.items c.of-place.result (whole c.args.bytes.items) (Placed c.args.name c.args.copy) c.self.invariant.tied absent more c.of-place.ensures.name c.of-place.ensures.fits c.self.inside.asked.items c.self.inside.astray c.args.bytes.items (front_of c.args.bytes.items) word c.of-place.ensures.bytes refl)
+    rw (← c.self.view_is, c.in_ok-push.ensures.items) (Listings.put_told c.args.name c.self.inside.files.items c.self.inside.journal.items c.push_reserved.new.self.items c.of-place.result (whole c.args.bytes.items) (Placed c.args.name c.args.copy) c.self.invariant.tied absent more c.of-place.ensures.name c.of-place.ensures.fits c.self.inside.asked.items c.self.inside.stray_views c.args.bytes.items (front_of c.args.bytes.items) word c.of-place.ensures.bytes refl)
 
 pub returns-clause-ok : goal.returns-clause-ok
 returns-clause-ok c =
     let first = rw c.deref.ensures.value at (found c.args.name c.deref.result.now c.in-Some.index (sym c.find.ensures.place ∙ c.in-Some.is)) in
     let more = rw c.reserve.ensures.items at c.push_reserved-2.ensures.items in
     let word = ap (λ bytes. placed c.args.name (whole bytes) (after_all [] c.self.inside.journal.items)) c.requires in
-    rw (← c.self.view_is) (Listings.replaced_told c.args.name c.self.inside.files.items c.self.inside.journal.items c.push_reserved-2.new.self.items c.in-Some.index c.index_mut-file.result.now c.of-place.result (Placed c.args.name c.args.copy) (whole c.args.bytes.items) c.self.invariant.tied first c.index_mut-file.ensures.value more c.of-place.ensures.name c.of-place.ensures.fits word c.self.inside.asked.items c.self.inside.astray c.args.bytes.items (front_of c.args.bytes.items) c.of-place.ensures.bytes refl)
+    rw (← c.self.view_is) (Listings.replaced_told c.args.name c.self.inside.files.items c.self.inside.journal.items c.push_reserved-2.new.self.items c.in-Some.index c.index_mut-file.result.now c.of-place.result (Placed c.args.name c.args.copy) (whole c.args.bytes.items) c.self.invariant.tied first c.index_mut-file.ensures.value more c.of-place.ensures.name c.of-place.ensures.fits word c.self.inside.asked.items c.self.inside.stray_views c.args.bytes.items (front_of c.args.bytes.items) c.of-place.ensures.bytes refl)
 
 pub invariant_of-self-in_default : goal.invariant_of-self-in_default
 invariant_of-self-in_default c =

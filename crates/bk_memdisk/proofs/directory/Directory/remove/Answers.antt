@@ -8,7 +8,7 @@ use Rattle.bk_memdisk.proofs.directory.Directory.remove.Goals as goal
 pub returns-in_default-clause-ok : goal.returns-in_default-clause-ok
 returns-in_default-clause-ok c =
     let absent = rw c.deref.ensures.value at (Listings.not_there c.args.name c.deref.result.now (sym c.find.ensures.place ∙ c.in_default.is)) in
-    rw (← c.self.view_is) (Listings.removed_already c.self.inside.files.items c.self.inside.journal.items c.self.invariant.tied c.self.inside.asked.items c.self.inside.astray c.args.name absent)
+    rw (← c.self.view_is) (Listings.removed_already c.self.inside.files.items c.self.inside.journal.items c.self.invariant.tied c.self.inside.asked.items c.self.inside.stray_views c.args.name absent)
 
 pub overflow_sub-self : goal.overflow_sub-self
 overflow_sub-self c =
@@ -32,7 +32,7 @@ pub returns-clause-ok : goal.returns-clause-ok
 returns-clause-ok c =
     let first = rw c.deref.ensures.value at (found c.args.name c.deref.result.now c.in-Some.index (sym c.find.ensures.place ∙ c.in-Some.is)) in
     let more = rw c.reserve.ensures.items at c.push_reserved.ensures.items in
-    rw (← c.self.view_is, c.remove-file.ensures.items) (Listings.gone_told c.args.name c.self.inside.files.items c.self.inside.journal.items c.push_reserved.new.self.items c.in-Some.index (Removed c.args.name) c.self.invariant.tied first more refl c.self.inside.asked.items c.self.inside.astray)
+    rw (← c.self.view_is, c.remove-file.ensures.items) (Listings.gone_told c.args.name c.self.inside.files.items c.self.inside.journal.items c.push_reserved.new.self.items c.in-Some.index (Removed c.args.name) c.self.invariant.tied first more refl c.self.inside.asked.items c.self.inside.stray_views)
 
 pub returns-clause-rooms : goal.returns-clause-rooms
 returns-clause-rooms c n other =

@@ -1,6 +1,6 @@
 use Rattle.bk_turn.specs.Handles.{hold_number}
 use Rattle.bk_turn.specs.Pushes.{push_step}
-use Rattle.turn_speed.proofs.turns.hold.Given as goal
+use Rattle.bench_turn.proofs.turns.hold.Given as goal
 
 -- the step of a holding that answers nothing
 abbrev pub ghost-leave : goal.ghost-leave

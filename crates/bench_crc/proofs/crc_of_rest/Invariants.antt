@@ -1,6 +1,6 @@
 use Rattle.std.proofs.Common.{◌≡◌, IfSome, IsSomeAnd}
 use Rattle.bk_crc.specs.Crc.{register_after, start_register}
-use Rattle.crc_speed.proofs.crc_of_rest.Given as goal
+use Rattle.bench_crc.proofs.crc_of_rest.Given as goal
 
 -- the register has gone over what the reader no longer gives
 abbrev pub invariant-loop : goal.invariant-loop

@@ -3,7 +3,7 @@ ghost use Rattle.std.specs.Prelude.{⊤};
 
 use std::alloc::{AllocError, AllocFailed};
 
-/// Want of memory: an allocation was refused. It is a variant of its own everywhere, since no
+/// Out of memory: an allocation was refused. It is a variant of its own everywhere, since no
 /// caller can rule it out.
 #[derive(Clone, Copy, Debug, PartialEq, Eq)]
 pub struct Memory;

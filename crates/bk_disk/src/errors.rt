@@ -1,6 +1,6 @@
 //! What a call on the outside may answer instead of its result.
 ghost use Rattle.std.specs.Prelude.{◌≡◌};
-ghost use Rattle.bk_disk.specs.declared.failures.DiskError.TheVariants.{Failed as failed, Memory as memory};
+ghost use Rattle.bk_disk.specs.declared.errors.DiskError.TheVariants.{Failed as failed, Memory as memory};
 
 use bk_base::Memory;
 use std::alloc::{AllocError, AllocFailed};
@@ -19,7 +19,7 @@ pub enum DiskError {
 }
 
 impl From<Failed> for DiskError {
-    ghost from_gives = { λ _ refusal. refusal ≡ failed };
+    ghost from_gives = { λ _ error. error ≡ failed };
 
     fn from(_: Failed) -> DiskError {
         DiskError::Failed
@@ -27,7 +27,7 @@ impl From<Failed> for DiskError {
 }
 
 impl From<Memory> for DiskError {
-    ghost from_gives = { λ _ refusal. refusal ≡ memory };
+    ghost from_gives = { λ _ error. error ≡ memory };
 
     fn from(_: Memory) -> DiskError {
         DiskError::Memory
@@ -35,7 +35,7 @@ impl From<Memory> for DiskError {
 }
 
 impl From<AllocError> for DiskError {
-    ghost from_gives = { λ _ refusal. refusal ≡ memory };
+    ghost from_gives = { λ _ error. error ≡ memory };
 
     fn from(_: AllocError) -> DiskError {
         Memory.into()
@@ -43,7 +43,7 @@ impl From<AllocError> for DiskError {
 }
 
 impl<T: Drop> From<AllocFailed<T>> for DiskError {
-    ghost from_gives = { λ _ refusal. refusal ≡ memory };
+    ghost from_gives = { λ _ error. error ≡ memory };
 
     fn from(_: AllocFailed<T>) -> DiskError {
         Memory.into()

@@ -1,6 +1,6 @@
 //! Why a roll was refused.
 ghost use Rattle.std.specs.Prelude.{◌≡◌};
-ghost use Rattle.bk_files.specs.declared.refusals.RollError.TheVariants.{Memory as memory, Disk as disk};
+ghost use Rattle.bk_files.specs.declared.errors.RollError.TheVariants.{Memory as memory, Disk as disk};
 
 use bk_base::Memory;
 use bk_disk::{DiskError, Failed};
@@ -17,7 +17,7 @@ pub enum RollError {
 }
 
 impl From<Memory> for RollError {
-    ghost from_gives = { λ _ refusal. refusal ≡ memory };
+    ghost from_gives = { λ _ error. error ≡ memory };
 
     fn from(_: Memory) -> RollError {
         RollError::Memory
@@ -25,7 +25,7 @@ impl From<Memory> for RollError {
 }
 
 impl From<Failed> for RollError {
-    ghost from_gives = { λ _ refusal. refusal ≡ disk };
+    ghost from_gives = { λ _ error. error ≡ disk };
 
     fn from(_: Failed) -> RollError {
         RollError::Disk
@@ -34,9 +34,9 @@ impl From<Failed> for RollError {
 
 impl From<DiskError> for RollError {
     ghost use Rattle.std.specs.Prelude.{◌≡◌};
-    ghost use Rattle.bk_files.specs.Refusal.{refusal_of};
+    ghost use Rattle.bk_files.specs.Errors.{roll_error_of};
 
-    ghost from_gives = { λ error refusal. refusal ≡ refusal_of error };
+    ghost from_gives = { λ cause error. error ≡ roll_error_of cause };
 
     fn from(error: DiskError) -> RollError {
         match error {

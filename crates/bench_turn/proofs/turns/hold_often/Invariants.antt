@@ -1,7 +1,7 @@
 use Rattle.std.proofs.Common.{◌≡◌}
 use Rattle.bk_turn.specs.Handles.{turn_id}
 use Rattle.bk_turn.specs.Places.{place_view, HasPass}
-use Rattle.turn_speed.proofs.turns.hold_often.Given as goal
+use Rattle.bench_turn.proofs.turns.hold_often.Given as goal
 
 abbrev pub invariant-loop : goal.invariant-loop
 invariant-loop g l = record {

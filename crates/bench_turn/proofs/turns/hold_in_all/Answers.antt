@@ -2,7 +2,7 @@ use Rattle.std.proofs.Common.{◌≡◌, ◌-◌, length, ap, arith}
 use Rattle.bk_turn.specs.declared.views.View.{View}
 use Rattle.bk_turn.specs.Handles.{turn_id, pass_view}
 use Rattle.bk_turn.proofs.Rows.{splits_weigh, splits_are_passes, weights_kept}
-use Rattle.turn_speed.proofs.turns.hold_in_all.Goals as goal
+use Rattle.bench_turn.proofs.turns.hold_in_all.Goals as goal
 
 pub hold_in_each-requires : goal.hold_in_each-requires
 hold_in_each-requires g c = (c.type_bounds.sync-R, splits_are_passes (turn_id c.args.turn.now) (pass_view c.args.pass) c.split_into-pass.new.places c.split_into-pass.ensures.given)
