@@ -6,7 +6,8 @@ import subprocess
 import time
 import unittest
 
-from support import ABSENT, DATA_FILE, LARGEST_KEY, LARGEST_VALUE, StoreTest, found, get, numbered, program, put, run
+from records import LARGEST_KEY, LARGEST_VALUE
+from support import ABSENT, DATA_FILE, StoreTest, found, get, numbered, program, put, run
 
 
 class PutAndGet(StoreTest):

@@ -3,9 +3,8 @@
 import random
 import unittest
 
-from support import MOST_IN_FILE, StoreTest, found, get, numbered, put
-
-QUARTER = MOST_IN_FILE // 4 - 23  # of a value: its record under a key of one byte is a quarter of a file
+from records import MOST_IN_FILE
+from support import QUARTER, StoreTest, found, get, numbered, put
 
 
 class Rolling(StoreTest):
