@@ -14,7 +14,8 @@ import threading
 import time
 import unittest
 
-from records import HEADER, MOST_IN_FILE, fault_of_store, parsed
+# Also for the tests, which take all names from here.
+from records import HEADER, LARGEST_KEY, LARGEST_VALUE, MOST_IN_FILE, fault_of_store, parsed, record
 
 CRATE = pathlib.Path(__file__).resolve().parent.parent / "crates" / "bitcaskd"
 DATA_FILE = "1.bitcask.data"

@@ -12,8 +12,7 @@ import subprocess
 import time
 import unittest
 
-from records import parsed
-from support import LOCK_FILE, QUARTER, Client, fault_of_folder, found, get, numbered, put, run
+from support import LOCK_FILE, QUARTER, Client, fault_of_folder, found, get, numbered, parsed, put, run
 from traced import TracedTest, sync_faults
 
 # What can go wrong with each kind of call.
@@ -183,6 +182,13 @@ class Faults(TracedTest):
             self.fail_each(talk, "write", *errors)
         files = [path.read_bytes() for path in self.folder.glob("*/store/*.bitcask.data")]
         self.assertTrue(any(parsed(text)[1] for text in files), "no run left a first part of a record")
+
+    def test_every_call_does_a_part(self):
+        for at_once in (False, True):
+            faults = ",".join(f"{kind}:0:short" for kind, errors in ERRORS.items() if "short" in errors)
+            failed, fault = self.hold(small_talk(), faults, at_once)
+            self.assertIsNone(fault)
+            self.assertGreater(len(failed), MOST_CALLS)
 
     def test_the_calls_at_a_full_file(self):
         talk = large_talk()

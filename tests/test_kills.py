@@ -9,8 +9,7 @@ import threading
 import time
 import unittest
 
-from records import MOST_IN_FILE
-from support import SECONDS, Client, StoreTest, fault_of_folder, numbered, put
+from support import MOST_IN_FILE, SECONDS, Client, StoreTest, fault_of_folder, numbered, put
 
 LONGEST_PAUSE = 0.005  # seconds
 

@@ -6,8 +6,7 @@ import subprocess
 import time
 import unittest
 
-from records import LARGEST_KEY, LARGEST_VALUE
-from support import ABSENT, DATA_FILE, StoreTest, found, get, numbered, program, put, run
+from support import ABSENT, DATA_FILE, LARGEST_KEY, LARGEST_VALUE, StoreTest, found, get, numbered, program, put, run
 
 
 class PutAndGet(StoreTest):

@@ -7,8 +7,9 @@ import signal
 import subprocess
 import unittest
 
-from records import LARGEST_VALUE, record
-from support import DATA_FILE, LOCK_FILE, SECONDS, Client, StoreTest, found, get, numbered, put, run
+from support import (
+    DATA_FILE, LARGEST_VALUE, LOCK_FILE, SECONDS, Client, StoreTest, found, get, numbered, put, record, run,
+)
 
 # What begins no request, as soon as its last byte is there.
 NO_REQUEST = [

@@ -3,8 +3,7 @@
 import random
 import unittest
 
-from records import MOST_IN_FILE
-from support import QUARTER, StoreTest, found, get, numbered, put
+from support import MOST_IN_FILE, QUARTER, StoreTest, found, get, numbered, put
 
 
 class Rolling(StoreTest):
