@@ -59,7 +59,7 @@ class Talk:
 
     def hold(self, trace):
         """Waits for each reply before the next request. Gives what a run to the end gives."""
-        with Client("pipe", str(trace.folder), env=trace.environment) as client:
+        with Client("pipe", str(trace.folder), **trace.options) as client:
             output = b""
             for request, reply in self.parts:
                 client.send(request)
@@ -72,7 +72,7 @@ class Talk:
 
     def hold_at_once(self, trace):
         """Sends the requests without waiting."""
-        return run("pipe", str(trace.folder), given=b"".join(request for request, _ in self.parts), env=trace.environment)
+        return run("pipe", str(trace.folder), given=b"".join(request for request, _ in self.parts), **trace.options)
 
 
 def small_talk():

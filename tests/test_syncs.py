@@ -16,7 +16,7 @@ class Syncs(TracedTest):
     def pipe_traced(self, given, status=0, replies=b"", word=None, faults=""):
         """Runs `pipe` over a new folder, and gives its calls, whose writes make up the files."""
         trace = self.trace(faults)
-        ended = run("pipe", str(trace.folder), given=given, env=trace.environment)
+        ended = run("pipe", str(trace.folder), given=given, **trace.options)
         self.assert_ended(ended, status, replies, word)
         calls = trace.calls()
         for path in trace.folder.glob("*.bitcask.data"):

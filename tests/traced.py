@@ -4,14 +4,16 @@ import atexit
 import functools
 import os
 import pathlib
+import resource
 import shutil
 import subprocess
 import tempfile
 import typing
 import unittest
 
-from support import SECONDS, StoreTest, run
+from support import MOST_IN_FILE, SECONDS, StoreTest, run
 
+MOST_BYTES = 4 * MOST_IN_FILE  # that a file may take in a run
 SOURCE = pathlib.Path(__file__).resolve().parent / "preload" / "calls.c"
 
 
@@ -63,7 +65,11 @@ class Trace:
         top = pathlib.Path(os.path.realpath(top))
         self.folder, self.log = top / "store", top / "log"
         self.folder.mkdir(parents=True)
-        self.environment = environment(library(), str(self.folder), str(self.log), faults)
+        # For the start of the program. The limit ends a wrong one that writes for ever.
+        self.options = {
+            "env": environment(library(), str(self.folder), str(self.log), faults),
+            "preexec_fn": lambda: resource.setrlimit(resource.RLIMIT_FSIZE, (MOST_BYTES, MOST_BYTES)),
+        }
 
     def calls(self):
         """The calls of the run, in their order."""
