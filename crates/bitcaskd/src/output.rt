@@ -5,6 +5,9 @@ ghost use Rattle.bitcaskd.specs.Output.{Wrote, LeftOver};
 
 use bk_disk::{Failed, Sink};
 
+/// The most room that is kept for the next replies. What a large value took above it is given back.
+const KEPT: usize = 262_144;
+
 /// Writes all replies that were gathered. After `Failed` the sink took a first part of them.
 pub fn flush<K: Sink>(sink: &mut K, replies: &mut Vec<u8>) -> Result<(), Failed>
     ensures wrote { IsTrue K.tells → OnOk result
@@ -17,6 +20,9 @@ pub fn flush<K: Sink>(sink: &mut K, replies: &mut Vec<u8>) -> Result<(), Failed>
 {
     write_all(sink, replies.as_slice())?;
     replies.clear();
+    if replies.capacity() > KEPT {
+        replies.shrink_to(KEPT);
+    }
     Ok(())
 }
 
