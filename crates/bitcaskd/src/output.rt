@@ -5,7 +5,8 @@ ghost use Rattle.bitcaskd.specs.Output.{Wrote, LeftOver};
 
 use bk_disk::{Failed, Sink};
 
-/// The most room that is kept for the next replies. What a large value took above it is given back.
+/// The most room that is kept for the next replies. Where a large value took more, all of it is given
+/// back: a part that stayed would keep the allocator from returning what was freed beside it.
 const KEPT: usize = 262_144;
 
 /// Writes all replies that were gathered. After `Failed` the sink took a first part of them.
@@ -21,7 +22,7 @@ pub fn flush<K: Sink>(sink: &mut K, replies: &mut Vec<u8>) -> Result<(), Failed>
     write_all(sink, replies.as_slice())?;
     replies.clear();
     if replies.capacity() > KEPT {
-        replies.shrink_to(KEPT);
+        replies.shrink_to_fit();
     }
     Ok(())
 }
