@@ -5,6 +5,7 @@ use Rattle.std.proofs.lemmas.Bool.{eqb-true}
 use Rattle.std.proofs.lemmas.Bool.Decides.{nat_tests}
 use Rattle.std.proofs.lemmas.List.{take_at, drop_at, take-append-drop, take-take, drop-drop, length-append, length-take, length-drop, nil_from_length}
 use Rattle.bk_base.specs.Bounds.{AreBytes}
+use Rattle.bk_base.specs.declared.limits.TheConstants.{LONGEST_VALUE, TOMBSTONE}
 use Rattle.bk_base.specs.declared.writes.Write.{Write}
 use Rattle.bk_base.specs.declared.writes.Body.{Body}
 use Rattle.bk_base.specs.declared.writes.Body.TheVariants.{Put, Gone}
@@ -22,15 +23,15 @@ unfolding record_of covered_of fields_of
 length-record_of w = omega (arith, length-append w.key (value_of w.body))
 
 length_said : (b : Body) → FitsBody b → value_length (value_field b) ≡ length (value_of b)
-length_said (Put value) fits = let bound : length value ≤ 16777216 = fits.bounds in grind (arith, nat_tests)
+length_said (Put value) fits = let bound : length value ≤ LONGEST_VALUE = fits.bounds in grind (arith, nat_tests)
 length_said Gone fits = refl
 
-length_bound : (b : Body) → FitsBody b → length (value_of b) ≤ 16777216
+length_bound : (b : Body) → FitsBody b → length (value_of b) ≤ LONGEST_VALUE
 length_bound (Put value) fits = fits.bounds
 length_bound Gone fits = omega arith
 
-not_a_tombstone : (n : ℕ) (value : List ℕ) → n ≤ 16777216 → body_in n value ≡ Put value
-not_a_tombstone n value bound = let no : eqb n 4294967295 ≡ false = grind (arith, nat_tests) in rw no refl
+not_a_tombstone : (n : ℕ) (value : List ℕ) → n ≤ LONGEST_VALUE → body_in n value ≡ Put value
+not_a_tombstone n value bound = let no : eqb n TOMBSTONE ≡ false = grind (arith, nat_tests) in rw no refl
 
 body_said : (b : Body) → FitsBody b → body_in (value_field b) (value_of b) ≡ b
 body_said (Put value) fits = not_a_tombstone (length value) value fits.bounds
@@ -132,14 +133,14 @@ parts bytes front fields size four eighteen room is =
       whole = sym (take-append-drop size bytes) ∙ ap (λ (x : List ℕ). x ++ drop size bytes) text;
     }
 
-body_says_by : (b : Bool) (vsz : ℕ) (value : List ℕ) → eqb vsz 4294967295 ≡ b → length value ≡ cond b 0 vsz → (value_field (cond b Gone (Put value)) ≡ vsz) × (value_of (cond b Gone (Put value)) ≡ value)
-body_says_by true vsz value e len = (sym (eqb-true vsz 4294967295 e), sym (nil_from_length value len))
+body_says_by : (b : Bool) (vsz : ℕ) (value : List ℕ) → eqb vsz TOMBSTONE ≡ b → length value ≡ cond b 0 vsz → (value_field (cond b Gone (Put value)) ≡ vsz) × (value_of (cond b Gone (Put value)) ≡ value)
+body_says_by true vsz value e len = (sym (eqb-true vsz TOMBSTONE e), sym (nil_from_length value len))
 body_says_by false vsz value e len = (len, refl)
 
 body_says : (vsz : ℕ) (value : List ℕ) → length value ≡ value_length vsz → (value_field (body_in vsz value) ≡ vsz) × (value_of (body_in vsz value) ≡ value)
-body_says vsz value len = body_says_by (eqb vsz 4294967295) vsz value refl len
+body_says vsz value len = body_says_by (eqb vsz TOMBSTONE) vsz value refl len
 
-body_fits_by : (b : Bool) (value : List ℕ) → length value ≤ 16777216 → AreBytes value → FitsBody (cond b Gone (Put value))
+body_fits_by : (b : Bool) (value : List ℕ) → length value ≤ LONGEST_VALUE → AreBytes value → FitsBody (cond b Gone (Put value))
 body_fits_by true value bound fits = tt
 body_fits_by false value bound fits = record { bounds = bound; bytes = fits }
 
@@ -195,7 +196,7 @@ is_read bytes fits long whole same sound =
           seq = sound.seq;
           moment = below.0;
           key = record { bounds = record { some = rw key_len sound.key; short = omega arith }; bytes = AreBytes-take h.ksz body text_fits };
-          body = body_fits_by (eqb h.vsz 4294967295) (drop h.ksz body) (omega arith) (AreBytes-drop h.ksz body text_fits);
+          body = body_fits_by (eqb h.vsz TOMBSTONE) (drop h.ksz body) (omega arith) (AreBytes-drop h.ksz body text_fits);
         };
         whole = p.whole ∙ ap (λ (x : List ℕ). x ++ drop size bytes) (sym (record_is w h.crc (fields_with h.moment.0 h.ksz h.vsz h.seq ++ body) crc covered));
       };

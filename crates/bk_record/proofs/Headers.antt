@@ -6,6 +6,7 @@ use Rattle.std.proofs.lemmas.Bool.{cases_lt}
 use Rattle.std.proofs.lemmas.List.{length-take, get_or-drop, get_or-take, get_or_past, get_or_default}
 use Rattle.std.proofs.lemmas.Nat.{be_bytes_2, be_bytes_4, be_bytes_8, from_be_bytes-to_be_bytes_2, from_be_bytes-to_be_bytes_4, from_be_bytes-to_be_bytes_8}
 use Rattle.bk_base.specs.Bounds.{AreBytes}
+use Rattle.bk_base.specs.declared.limits.TheConstants.{LONGEST_KEY, LONGEST_VALUE}
 use Rattle.bk_base.specs.declared.writes.Write.{Write}
 use Rattle.bk_base.specs.declared.writes.Body.{Body}
 use Rattle.bk_base.specs.declared.writes.Body.TheVariants.{Put, Gone}
@@ -73,7 +74,7 @@ eight_front _ long fits = absurd (omega arith)
 -- ---- the header of a record
 
 field_fits : (b : Body) → FitsBody b → value_field b < 2 ^ 32
-field_fits (Put value) fits = let bound : length value ≤ 16777216 = fits.bounds in omega arith
+field_fits (Put value) fits = let bound : length value ≤ LONGEST_VALUE = fits.bounds in omega arith
 field_fits Gone fits = omega arith
 
 value_fits : (b : Body) → FitsBody b → AreBytes (value_of b)
@@ -114,7 +115,7 @@ unfolding header_of record_of covered_of fields_of
 header_of-record_of w rest fits = record {
   crc = from_be_bytes-to_be_bytes_4 (checksum_of w) (checksum_of-lt w fits);
   moment = from_be_bytes-to_be_bytes_4 w.moment.0 fits.moment;
-  ksz = let bound : length w.key ≤ 65535 = fits.key.bounds.short in from_be_bytes-to_be_bytes_2 (length w.key) (omega arith);
+  ksz = let bound : length w.key ≤ LONGEST_KEY = fits.key.bounds.short in from_be_bytes-to_be_bytes_2 (length w.key) (omega arith);
   vsz = from_be_bytes-to_be_bytes_4 (value_field w.body) (field_fits w.body fits.body);
-  seq = from_be_bytes-to_be_bytes_8 w.seq.0 (let bound : w.seq.0 < 2 ^ 63 = fits.seq.1 in omega arith);
+  seq = from_be_bytes-to_be_bytes_8 w.seq.0 (omega (arith, fits.seq.1));
 }

@@ -6,7 +6,8 @@ ghost use Rattle.bk_record.specs.Header.{IsSound, body_in, value_length, write_i
 ghost use Rattle.bk_record.specs.Stops.{IsDecoded, IsStop, IsWhole};
 ghost use Rattle.bk_record.specs.declared.decoding.Stop.TheVariants.{Memory as memory_stop};
 
-use crate::header::{CHECKSUM, HEADER, Header, TOMBSTONE};
+use crate::header::Header;
+use bk_base::limits::{CHECKSUM, LONGEST_VALUE, RECORD_HEADER, TOMBSTONE};
 use bk_base::{Body, Key, Memory, Seq, Value, Write};
 use bk_crc::crc32;
 use std::alloc::Global;
@@ -53,7 +54,7 @@ pub fn decode(alloc: Global, bytes: &[u8]) -> Result<Decoded, Stop>
     if !header.is_sound() {
         return Err(Stop::BadField);
     }
-    match write_of(alloc, &header, &record[HEADER..]) {
+    match write_of(alloc, &header, &record[RECORD_HEADER..]) {
         Ok(write) => Ok(Decoded {
             write,
             size: record.len() as u32,
@@ -71,7 +72,7 @@ fn whole_record(bytes: &[u8]) -> Result<(Header, &[u8]), Stop>
     if bytes.is_empty() {
         return Err(Stop::End);
     }
-    let Some((front, _rest)) = bytes.split_first_chunk::<HEADER>() else {
+    let Some((front, _rest)) = bytes.split_first_chunk::<RECORD_HEADER>() else {
         return Err(Stop::Short);
     };
     let header = Header::read(front);
@@ -100,7 +101,7 @@ fn write_of(alloc: Global, header: &Header, bytes: &[u8]) -> Result<Write, Memor
 }
 
 fn body_of(alloc: Global, vsz: u32, value: &[u8]) -> Result<Body, Memory>
-    requires { (length value.now ≡ value_length vsz) × (value_length vsz ≤ 16777216) }
+    requires { (length value.now ≡ value_length vsz) × (value_length vsz ≤ LONGEST_VALUE) }
     ensures { IfOk result (λ body. body ≡ body_in vsz value.now) }
 {
     if vsz == TOMBSTONE {
