@@ -9,12 +9,15 @@ use Rattle.bk_base.specs.declared.limits.TheConstants.{LONGEST_VALUE, TOMBSTONE}
 use Rattle.bk_base.specs.declared.writes.Write.{Write}
 use Rattle.bk_base.specs.declared.writes.Body.{Body}
 use Rattle.bk_base.specs.declared.writes.Body.TheVariants.{Put, Gone}
+use Rattle.bk_base.proofs.Bytes.{AreBytes-drop, AreBytes-take, drop-cut}
+use Rattle.bk_base.proofs.FixedWidth.{from_be_bytes_2-lt, from_be_bytes_4-lt}
+use Rattle.bk_base.proofs.FixedWidth.{to_be_bytes-from_be_bytes_2, to_be_bytes-from_be_bytes_4, to_be_bytes-from_be_bytes_8}
 use Rattle.bk_crc.specs.Crc.{crc_of}
 use Rattle.bk_laws.specs.Record.{IsWritable, FitsBody, RecordStands, checksum_of, covered_of, fields_of, record_of, size_of, value_field, value_of}
 use Rattle.bk_record.specs.declared.header.Header.{Header}
 use Rattle.bk_record.specs.Header.{IsSound, body_in, header_of, said_size, value_length, write_in}
 use Rattle.bk_record.specs.Stops.{computed_of}
-use Rattle.bk_record.proofs.Headers.{AreBytes-drop, AreBytes-take, header_of-record_of, two_front, four_front, eight_front}
+use Rattle.bk_record.proofs.Headers.{header_of-record_of}
 
 -- ---- what stands at the front
 
@@ -100,24 +103,21 @@ one_record bytes v w x y p q = let a = reads bytes v x p in let b = reads bytes 
 abbrev fields_with : ℕ → ℕ → ℕ → ℕ → List ℕ
 fields_with moment ksz vsz seq = to_be_bytes w32 moment ++ to_be_bytes w16 ksz ++ to_be_bytes w32 vsz ++ to_be_bytes w64 seq
 
-cut : (n k : ℕ) (bytes x : List ℕ) → x ≡ take k (drop n bytes) → drop n bytes ≡ x ++ drop (n + k) bytes
-cut n k bytes x e = sym (take-append-drop k (drop n bytes)) ∙ (λ i. sym e i ++ drop-drop k n bytes i)
-
 regroup : (a b c d e r : List ℕ) → a ++ (b ++ (c ++ (d ++ (e ++ r)))) ≡ a ++ ((b ++ c ++ d ++ e) ++ r)
 regroup a b c d e r = simp append_assoc
 
 joined : (bytes a b c d e : List ℕ) → a ≡ take 4 (drop 0 bytes) → b ≡ take 4 (drop 4 bytes) → c ≡ take 2 (drop 8 bytes) → d ≡ take 4 (drop 10 bytes) → e ≡ take 8 (drop 14 bytes) → bytes ≡ a ++ ((b ++ c ++ d ++ e) ++ drop 22 bytes)
 joined bytes a b c d e p q r s t =
-    cut 0 4 bytes a p ∙ ap (λ (x : List ℕ). a ++ x) (cut 4 4 bytes b q ∙ ap (λ (x : List ℕ). b ++ x) (cut 8 2 bytes c r ∙ ap (λ (x : List ℕ). c ++ x) (cut 10 4 bytes d s ∙ ap (λ (x : List ℕ). d ++ x) (cut 14 8 bytes e t)))) ∙ regroup a b c d e (drop 22 bytes)
+    drop-cut 0 4 bytes a p ∙ ap (λ (x : List ℕ). a ++ x) (drop-cut 4 4 bytes b q ∙ ap (λ (x : List ℕ). b ++ x) (drop-cut 8 2 bytes c r ∙ ap (λ (x : List ℕ). c ++ x) (drop-cut 10 4 bytes d s ∙ ap (λ (x : List ℕ). d ++ x) (drop-cut 14 8 bytes e t)))) ∙ regroup a b c d e (drop 22 bytes)
 
 header_first : (bytes : List ℕ) → AreBytes bytes → 22 ≤ length bytes → bytes ≡ to_be_bytes w32 (header_of bytes).crc ++ (fields_with (header_of bytes).moment.0 (header_of bytes).ksz (header_of bytes).vsz (header_of bytes).seq ++ drop 22 bytes)
 unfolding header_of
 header_first bytes fits long =
-    joined bytes _ _ _ _ _ (four_front bytes (omega arith) fits)
-    (four_front (drop 4 bytes) (omega (arith, length-drop 4 bytes)) (AreBytes-drop 4 bytes fits))
-    (two_front (drop 8 bytes) (omega (arith, length-drop 8 bytes)) (AreBytes-drop 8 bytes fits))
-    (four_front (drop 10 bytes) (omega (arith, length-drop 10 bytes)) (AreBytes-drop 10 bytes fits))
-    (eight_front (drop 14 bytes) (omega (arith, length-drop 14 bytes)) (AreBytes-drop 14 bytes fits))
+    joined bytes _ _ _ _ _ (to_be_bytes-from_be_bytes_4 bytes (omega arith) fits)
+    (to_be_bytes-from_be_bytes_4 (drop 4 bytes) (omega (arith, length-drop 4 bytes)) (AreBytes-drop 4 bytes fits))
+    (to_be_bytes-from_be_bytes_2 (drop 8 bytes) (omega (arith, length-drop 8 bytes)) (AreBytes-drop 8 bytes fits))
+    (to_be_bytes-from_be_bytes_4 (drop 10 bytes) (omega (arith, length-drop 10 bytes)) (AreBytes-drop 10 bytes fits))
+    (to_be_bytes-from_be_bytes_8 (drop 14 bytes) (omega (arith, length-drop 14 bytes)) (AreBytes-drop 14 bytes fits))
 
 -- the parts of a record of this size
 record Parts (bytes front fields : List ℕ) (size : ℕ) : Type 0 where
@@ -144,15 +144,9 @@ body_fits_by : (b : Bool) (value : List ℕ) → length value ≤ LONGEST_VALUE 
 body_fits_by true value bound fits = tt
 body_fits_by false value bound fits = record { bounds = bound; bytes = fits }
 
-four_below : (bytes : List ℕ) → AreBytes bytes → from_be_bytes w32 bytes < 2 ^ 32
-four_below bytes fits = omega (arith, fits 0, fits 1, fits 2, fits 3)
-
-two_below : (bytes : List ℕ) → AreBytes bytes → from_be_bytes w16 bytes < 2 ^ 16
-two_below bytes fits = omega (arith, fits 0, fits 1)
-
 header_below : (bytes : List ℕ) → AreBytes bytes → ((header_of bytes).moment.0 < 2 ^ 32) × ((header_of bytes).ksz < 2 ^ 16)
 unfolding header_of
-header_below bytes fits = (four_below (drop 4 bytes) (AreBytes-drop 4 bytes fits), two_below (drop 8 bytes) (AreBytes-drop 8 bytes fits))
+header_below bytes fits = (from_be_bytes_4-lt (drop 4 bytes) (AreBytes-drop 4 bytes fits), from_be_bytes_2-lt (drop 8 bytes) (AreBytes-drop 8 bytes fits))
 
 covered_is : (w : Write) (m k v s : ℕ) (body : List ℕ) → w.moment.0 ≡ m → length w.key ≡ k → value_field w.body ≡ v → w.seq.0 ≡ s → w.key ++ value_of w.body ≡ body → covered_of w ≡ fields_with m k v s ++ body
 unfolding covered_of fields_of
