@@ -2,6 +2,7 @@
 use Rattle.std.proofs.Common.{◌≡◌, ◌∙◌, ℕ, ◌-◌, ◌≤◌, List, [], ◌∷◌, ◌++◌, length, drop, Bool, ◌⊎◌, refl, sym, ap, subst, arith, inl, inr, false, IsTrue}
 use Rattle.std.proofs.lemmas.List.{append-nil}
 use Rattle.std.proofs.lemmas.Bool.{cases_lt}
+use Rattle.bk_base.specs.declared.limits.TheConstants.{DEFAULT_MAX_FILE}
 use Rattle.bk_base.specs.declared.calls.Call.TheVariants.{Sync, Quiet}
 use Rattle.bk_base.specs.declared.calls.Answer.TheVariants.{Numbered, Done as done_answer}
 use Rattle.bk_base.specs.declared.histories.Opening.{Opening}
@@ -29,7 +30,7 @@ opening_of start = record {
   log = [];
   folds = [];
   snapshot = no_snapshot;
-  settings = record { dead_bytes = 0; max_file = 67108864; ttl = 0; dead_percent = 0 };
+  settings = record { dead_bytes = 0; max_file = DEFAULT_MAX_FILE; ttl = 0; dead_percent = 0 };
   faults = start.site.faults;
   views = start.site.views;
   outs = 0;
