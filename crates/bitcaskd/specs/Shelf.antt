@@ -1,5 +1,6 @@
 -- How the records of a log lie in data files.
 use Rattle.std.specs.Prelude.{◌≡◌, ◌⊎◌, ℕ, ◌+◌, ◌-◌, ◌*◌, ◌<◌, ◌≤◌, List, [], ◌∷◌, ◌++◌, false, cond, Option, None, Some, is_some, length, take, map}
+use Rattle.bk_base.specs.declared.limits.TheConstants.{DEFAULT_MAX_FILE}
 use Rattle.bk_base.specs.declared.writes.Write.{Write}
 use Rattle.bk_base.specs.declared.names.Name.{Name}
 use Rattle.bk_disk.specs.Told.{Table, Image, Front, Told, bytes_of, IsAbsent}
@@ -12,7 +13,7 @@ use Rattle.bk_laws.specs.Record.{records_of, size_of}
 
 -- past this many bytes a file takes no further record
 abbrev pub max_file : ℕ
-max_file = 67108864
+max_file = DEFAULT_MAX_FILE
 
 -- the closed files, and the writes of the newest one
 pub record Shelf : Type 0 where

@@ -11,14 +11,12 @@ use crate::appending::append_text;
 use crate::index::Index;
 use crate::places::Place;
 use crate::refusals::Refusal;
+use bk_base::limits::DEFAULT_MAX_FILE;
 use bk_base::{Body, FileId, Key, Memory, Moment, Seq, Value, Write};
 use bk_disk::{Disk, DiskError, Failed, View};
 use bk_files::Files;
 use bk_record::encode;
 use std::alloc::Global;
-
-/// Past this many bytes a data file takes no further record.
-const MAX_FILE: u32 = 67_108_864;
 
 /// A store over the data files of a disk.
 pub struct Store<D: Disk> {
@@ -37,7 +35,7 @@ impl<D: Disk> Store<D> {
             result.index [] }
     {
         Store {
-            files: Files::new(disk, Vec::new(alloc), FileId(0), MAX_FILE),
+            files: Files::new(disk, Vec::new(alloc), FileId(0), DEFAULT_MAX_FILE),
             index: Index::new(alloc),
         }
     }

@@ -9,11 +9,12 @@ ghost use Rattle.bitcaskd.specs.Store.{Holds, Stands};
 ghost use Rattle.bitcaskd.specs.Serving.{Site, site_of};
 ghost use Rattle.bitcaskd.specs.Talking.{Asks, Flushed, WritesSome, StopsAtBad, Turns, IsReady, Stopped, after_input, status_of, scene_of, work_left};
 
-use crate::input::{Input, MOST, next_piece};
+use crate::input::{Input, next_piece};
 use crate::output::flush;
 use crate::refusals::Refusal;
 use crate::serving::answer;
 use crate::store::Store;
+use bk_base::limits::LONGEST_SESSION;
 use bk_base::{Memory, Request, Status};
 use bk_disk::{Clock, Disk, Sink, Source};
 use bk_wire::{Next, Reader};
@@ -54,8 +55,8 @@ fn ask<D: Disk, K: Sink, C: Clock>(
     requires stands { IsTrue D.tells → Stands (D.told store.old.files.disk)
         store.old.files.catalog store.old.index }
     requires fits { Fits request }
-    requires files { FitsWithin (46 * MOST) store.old.files.catalog }
-    requires last { store.old.index.last + length (request_text request) ≤ MOST }
+    requires files { FitsWithin (46 * LONGEST_SESSION) store.old.files.catalog }
+    requires last { store.old.index.last + length (request_text request) ≤ LONGEST_SESSION }
     ensures files { result ≡ None → (most : ℕ) → FitsWithin most store.old.files.catalog
         → FitsWithin (most + 46 * length (request_text request)) store.new.files.catalog }
     ensures last { result ≡ None → store.new.index.last ≤ store.old.index.last + length
@@ -116,14 +117,14 @@ fn write_if_many<K: Sink>(sink: &mut K, replies: &mut Vec<u8>) -> Option<Status>
 /// Writes what was gathered and reads on. `None` where the run goes on with more bytes.
 fn read_on<S: Source, K: Sink>(desk: &mut Desk, source: &mut S, sink: &mut K) -> Option<Status>
     requires partial { IsPartial desk.old.reader.rest }
-    requires most { desk.old.reader.most ≡ MOST }
-    requires within { taken desk.old.reader ≤ MOST }
+    requires most { desk.old.reader.most ≡ LONGEST_SESSION }
+    requires within { taken desk.old.reader ≤ LONGEST_SESSION }
     requires piece { 0 < length desk.old.piece.items }
     ensures piece { length desk.new.piece.items ≡ length desk.old.piece.items }
     ensures offset { result ≡ None → desk.new.reader.offset ≡ desk.old.reader.offset }
     ensures more { result ≡ None → length desk.old.reader.rest < length desk.new.reader.rest }
-    ensures most { desk.new.reader.most ≡ MOST }
-    ensures within { taken desk.new.reader ≤ MOST }
+    ensures most { desk.new.reader.most ≡ LONGEST_SESSION }
+    ensures within { taken desk.new.reader ≤ LONGEST_SESSION }
     ensures turns { (disk_tells clock_tells : Bool) (site : Site) → Turns result
         (telling disk_tells S.tells K.tells clock_tells)
         (scene_of site (S.whole source.old) (S.taken source.old) (K.written sink.old)
@@ -230,14 +231,14 @@ impl Desk {
     /// An empty desk.
     fn new(alloc: Global) -> Result<Desk, Memory>
         ensures reader { IfOk result
-            (λ desk. desk.reader ≡ record { rest = []; offset = 0; most = MOST }) }
+            (λ desk. desk.reader ≡ record { rest = []; offset = 0; most = LONGEST_SESSION }) }
         ensures replies { IfOk result (λ desk. desk.replies.items ≡ []) }
         ensures piece { IfOk result (λ desk. 0 < length desk.piece.items) }
     {
         let piece: Result<_, _> = vec![in alloc; 0u8; PIECE];
         match piece {
             Ok(piece) => Ok(Desk {
-                reader: Reader::new(alloc, MOST),
+                reader: Reader::new(alloc, LONGEST_SESSION),
                 replies: Vec::new(alloc),
                 piece,
             }),
