@@ -52,7 +52,7 @@ fn ask<D: Disk, K: Sink, C: Clock>(
     sink: &mut K,
     request: Request,
 ) -> Option<Status>
-    requires stands { IsTrue D.tells → Stands (D.told store.old.files.disk)
+    requires stands { IsTrue D.tells → Stands store.old.files.told
         store.old.files.catalog store.old.index }
     requires fits { Fits request }
     requires files { FitsWithin (46 * LONGEST_SESSION) store.old.files.catalog }
@@ -62,20 +62,20 @@ fn ask<D: Disk, K: Sink, C: Clock>(
     ensures last { result ≡ None → store.new.index.last ≤ store.old.index.last + length
         (request_text request) }
     ensures stands { result ≡ None → IsTrue D.tells → Stands
-        (D.told store.new.files.disk) store.new.files.catalog store.new.index }
+        store.new.files.told store.new.files.catalog store.new.index }
     ensures turns { Asks result D.tells K.tells C.tells request
-        (site_of (D.told store.old.files.disk) store.old.files.catalog store.old.index
-        (D.faults store.old.files.disk) (D.fallible_views store.old.files.disk) (C.moments clock.old))
+        (site_of store.old.files.told store.old.files.catalog store.old.index
+        store.old.files.faults store.old.files.fallible_views (C.moments clock.old))
         (K.written sink.old) (K.faults sink.old) replies.old.items
-        (site_of (D.told store.new.files.disk) store.new.files.catalog store.new.index
-        (D.faults store.new.files.disk) (D.fallible_views store.new.files.disk) (C.moments clock.new))
+        (site_of store.new.files.told store.new.files.catalog store.new.index
+        store.new.files.faults store.new.files.fallible_views (C.moments clock.new))
         (K.written sink.new) (K.faults sink.new) replies.new.items }
-    ensures disk { result ≡ Some Status.Disk → Rose (D.faults store.old.files.disk)
-        (D.faults store.new.files.disk) ⊎ Rose (D.fallible_views store.old.files.disk)
-        (D.fallible_views store.new.files.disk) }
+    ensures disk { result ≡ Some Status.Disk → Rose store.old.files.faults
+        store.new.files.faults ⊎ Rose store.old.files.fallible_views
+        store.new.files.fallible_views }
     ensures sink { result ≡ Some Status.Sink → Rose (K.faults sink.old) (K.faults sink.new) }
     ensures not_source { result ≢ Some Status.Source }
-    ensures faults { D.faults store.old.files.disk ≤ D.faults store.new.files.disk }
+    ensures faults { store.old.files.faults ≤ store.new.files.faults }
     ensures wrote { K.faults sink.old ≤ K.faults sink.new }
     ensures built { IfSome result IsBuilt }
 {
@@ -176,28 +176,28 @@ fn turn<D: Disk, S: Source, K: Sink, C: Clock>(
     sink: &mut K,
     clock: &mut C,
 ) -> Option<Status>
-    requires stands { IsTrue D.tells → Stands (D.told store.old.files.disk)
+    requires stands { IsTrue D.tells → Stands store.old.files.told
         store.old.files.catalog store.old.index }
     requires ready { IsReady store.old.files.catalog store.old.index desk.old.reader
         desk.old.piece.items }
     ensures stands { result ≡ None → IsTrue D.tells → Stands
-        (D.told store.new.files.disk) store.new.files.catalog store.new.index }
+        store.new.files.told store.new.files.catalog store.new.index }
     ensures ready { result ≡ None → IsReady store.new.files.catalog store.new.index
         desk.new.reader desk.new.piece.items }
     ensures fewer { result ≡ None → work_left desk.new.reader < work_left desk.old.reader }
     ensures turns { Turns result (telling D.tells S.tells K.tells C.tells)
-        (scene_of (site_of (D.told store.old.files.disk) store.old.files.catalog store.old.index
-        (D.faults store.old.files.disk) (D.fallible_views store.old.files.disk) (C.moments clock.old))
+        (scene_of (site_of store.old.files.told store.old.files.catalog store.old.index
+        store.old.files.faults store.old.files.fallible_views (C.moments clock.old))
         (S.whole source.old) (S.taken source.old) (K.written sink.old)
         (K.faults sink.old)) desk.old.reader desk.old.replies.items
-        (scene_of (site_of (D.told store.new.files.disk) store.new.files.catalog store.new.index
-        (D.faults store.new.files.disk) (D.fallible_views store.new.files.disk) (C.moments clock.new))
+        (scene_of (site_of store.new.files.told store.new.files.catalog store.new.index
+        store.new.files.faults store.new.files.fallible_views (C.moments clock.new))
         (S.whole source.new) (S.taken source.new) (K.written sink.new)
         (K.faults sink.new)) desk.new.reader desk.new.replies.items }
-    ensures faults { D.faults store.old.files.disk ≤ D.faults store.new.files.disk }
-    ensures disk { result ≡ Some Status.Disk → Rose (D.faults store.old.files.disk)
-        (D.faults store.new.files.disk) ⊎ Rose (D.fallible_views store.old.files.disk)
-        (D.fallible_views store.new.files.disk) }
+    ensures faults { store.old.files.faults ≤ store.new.files.faults }
+    ensures disk { result ≡ Some Status.Disk → Rose store.old.files.faults
+        store.new.files.faults ⊎ Rose store.old.files.fallible_views
+        store.new.files.fallible_views }
     ensures took { S.faults source.old ≤ S.faults source.new }
     ensures source { result ≡ Some Status.Source → Rose (S.faults source.old)
         (S.faults source.new) }
@@ -255,21 +255,21 @@ pub fn talk<D: Disk, S: Source, K: Sink, C: Clock>(
     sink: &mut K,
     clock: &mut C,
 ) -> Status
-    requires holds { IsTrue D.tells → Holds (D.told store.old.files.disk)
+    requires holds { IsTrue D.tells → Holds store.old.files.told
         store.old.files.catalog store.old.index [] }
     requires files { FitsWithin 0 store.old.files.catalog }
     requires last { store.old.index.last ≡ 0 }
     ensures stopped { Stopped (telling D.tells S.tells K.tells C.tells)
-        (scene_of (site_of (D.told store.old.files.disk) store.old.files.catalog store.old.index
-        (D.faults store.old.files.disk) (D.fallible_views store.old.files.disk) (C.moments clock.old))
+        (scene_of (site_of store.old.files.told store.old.files.catalog store.old.index
+        store.old.files.faults store.old.files.fallible_views (C.moments clock.old))
         (S.whole source.old) (S.taken source.old) (K.written sink.old) (K.faults sink.old))
-        (scene_of (site_of (D.told store.new.files.disk) store.new.files.catalog store.new.index
-        (D.faults store.new.files.disk) (D.fallible_views store.new.files.disk) (C.moments clock.new))
+        (scene_of (site_of store.new.files.told store.new.files.catalog store.new.index
+        store.new.files.faults store.new.files.fallible_views (C.moments clock.new))
         (S.whole source.new) (S.taken source.new) (K.written sink.new) (K.faults sink.new)) result }
-    ensures faults { D.faults store.old.files.disk ≤ D.faults store.new.files.disk }
-    ensures disk { result ≡ Status.Disk → Rose (D.faults store.old.files.disk)
-        (D.faults store.new.files.disk) ⊎ Rose (D.fallible_views store.old.files.disk)
-        (D.fallible_views store.new.files.disk) }
+    ensures faults { store.old.files.faults ≤ store.new.files.faults }
+    ensures disk { result ≡ Status.Disk → Rose store.old.files.faults
+        store.new.files.faults ⊎ Rose store.old.files.fallible_views
+        store.new.files.fallible_views }
     ensures source { result ≡ Status.Source → Rose (S.faults source.old) (S.faults source.new) }
     ensures sink { result ≡ Status.Sink → Rose (K.faults sink.old) (K.faults sink.new) }
     ensures built { IsBuilt result }
