@@ -80,8 +80,13 @@ one_stop bytes s t p q =
 
 module _ (bytes : List ℕ) (h : Header) (text : List ℕ) (fits : AreBytes bytes) (found : IsWhole bytes h text) where
   pub bad_check : (computed : ℕ) → computed ≡ crc_of (drop 4 text) → h.crc ≢ computed → IsStop bytes (BadCheck h.crc computed)
-  bad_check computed is differs =
-      (omega (arith, needed_is bytes found.long, found.sizes), ap (λ (x : Header). x.crc) found.header, is ∙ ap (λ (x : List ℕ). crc_of (drop 4 x)) found.is_text, differs)
+  bad_check computed is differs = (
+    omega (arith, needed_is bytes found.long, found.sizes),
+    ap (λ (x : Header). x.crc) found.header,
+    is
+        ∙ ap (λ (x : List ℕ). crc_of (drop 4 x)) found.is_text,
+    differs,
+  )
 
   same_check : (computed : ℕ) → computed ≡ crc_of (drop 4 text) → h.crc ≡ computed → (header_of bytes).crc ≡ computed_of bytes
   same_check computed is same = sym (ap (λ (x : Header). x.crc) found.header) ∙ same ∙ is ∙ ap (λ (x : List ℕ). crc_of (drop 4 x)) found.is_text
@@ -99,7 +104,8 @@ module _ (bytes : List ℕ) (h : Header) (text : List ℕ) (fits : AreBytes byte
   written : (w : Write) → w ≡ write_in h (drop 22 text) → w ≡ read_write bytes
   written w e = e ∙ (λ i. write_in (found.header i) (drop 22 (found.is_text i)))
 
-  pub decoded : (computed : ℕ) (w : Write) → computed ≡ crc_of (drop 4 text) → h.crc ≡ computed → IsSound h → w ≡ write_in h (drop 22 text) → IsDecoded bytes (record { write = w; size = length text; crc = computed })
+  pub decoded : (computed : ℕ) (w : Write) → computed ≡ crc_of (drop 4 text) → h.crc ≡ computed → IsSound h
+      → w ≡ write_in h (drop 22 text) → IsDecoded bytes (record { write = w; size = length text; crc = computed })
   decoded computed w is same sound e =
       let r = read_is computed is same sound in
       let size : length text ≡ said_size (header_of bytes) = rw found.is_text (omega (arith, length-take (said_size (header_of bytes)) bytes, found.sizes)) in

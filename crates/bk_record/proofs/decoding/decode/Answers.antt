@@ -16,14 +16,17 @@ pub returns-then-header-computed-clause-again : goal.returns-then-header-compute
 returns-then-header-computed-clause-again c = λ w rest there.
     let text = c.in_ok-header.record.now in
     let computed : c.crc32-computed.result ≡ crc_of (drop 4 text) = c.crc32-computed.ensures ∙ ap crc_of (take_rest text 4) in
-    let stop = bad_check c.args.bytes.now c.in_ok-header.header text (λ i. omega (arith, c.type_inv.bytes i)) c.in_ok-header.ensures.whole c.crc32-computed.result computed c.if-header-computed.true in
+    let stop = bad_check c.args.bytes.now c.in_ok-header.header text (λ i. omega (arith, c.type_inv.bytes i))
+    c.in_ok-header.ensures.whole c.crc32-computed.result computed c.if-header-computed.true in
     one_stop c.args.bytes.now _ Memory stop (w, rest, there)
 
 pub returns-then-not-is_sound-clause-again : goal.returns-then-not-is_sound-clause-again
 returns-then-not-is_sound-clause-again c = λ w rest there.
     let text = c.in_ok-header.record.now in
     let computed : c.crc32-computed.result ≡ crc_of (drop 4 text) = c.crc32-computed.ensures ∙ ap crc_of (take_rest text 4) in
-    let stop = bad_field c.args.bytes.now c.in_ok-header.header text (λ i. omega (arith, c.type_inv.bytes i)) c.in_ok-header.ensures.whole c.crc32-computed.result computed c.if-header-computed.false (λ sound. let no = c.if-not-is_sound.ensures.1 sound in cc) in
+    let stop = bad_field c.args.bytes.now c.in_ok-header.header text (λ i. omega (arith, c.type_inv.bytes i))
+    c.in_ok-header.ensures.whole c.crc32-computed.result computed c.if-header-computed.false
+    (λ sound. let no = c.if-not-is_sound.ensures.1 sound in cc) in
     one_stop c.args.bytes.now BadField Memory stop (w, rest, there)
 
 pub returns-in-Ok-clause-decoded : goal.returns-in-Ok-clause-decoded
@@ -31,7 +34,9 @@ returns-in-Ok-clause-decoded c =
     let text = c.in_ok-header.record.now in
     let computed : c.crc32-computed.result ≡ crc_of (drop 4 text) = c.crc32-computed.ensures ∙ ap crc_of (take_rest text 4) in
     let write = c.in-Ok.ensures ∙ ap (write_in c.in_ok-header.header) (take_rest text 22) in
-    decoded c.args.bytes.now c.in_ok-header.header text (λ i. omega (arith, c.type_inv.bytes i)) c.in_ok-header.ensures.whole c.crc32-computed.result c.in-Ok.write computed c.if-header-computed.false (c.if-not-is_sound.ensures.0 refl) write
+    decoded c.args.bytes.now c.in_ok-header.header text (λ i. omega (arith, c.type_inv.bytes i))
+    c.in_ok-header.ensures.whole c.crc32-computed.result c.in-Ok.write computed c.if-header-computed.false
+    (c.if-not-is_sound.ensures.0 refl) write
 
 pub returns-in-Ok-clause-again : goal.returns-in-Ok-clause-again
 returns-in-Ok-clause-again c = λ w rest there.
@@ -43,4 +48,6 @@ pub returns-in-Err-clause-stop : goal.returns-in-Err-clause-stop
 returns-in-Err-clause-stop c =
     let text = c.in_ok-header.record.now in
     let computed : c.crc32-computed.result ≡ crc_of (drop 4 text) = c.crc32-computed.ensures ∙ ap crc_of (take_rest text 4) in
-    stands c.args.bytes.now c.in_ok-header.header text (λ i. omega (arith, c.type_inv.bytes i)) c.in_ok-header.ensures.whole c.crc32-computed.result computed c.if-header-computed.false (c.if-not-is_sound.ensures.0 refl)
+    stands c.args.bytes.now c.in_ok-header.header text (λ i. omega (arith, c.type_inv.bytes i))
+    c.in_ok-header.ensures.whole c.crc32-computed.result computed c.if-header-computed.false
+    (c.if-not-is_sound.ensures.0 refl)
