@@ -1,10 +1,10 @@
 -- What stands at the front is read, and what was read stands there.
 use Rattle.std.proofs.Common.{◌≡◌, ℕ, ◌+◌, ◌^◌, ◌<◌, ◌≤◌, Bool, true, false, cond, eqb, List, ◌∷◌, ◌++◌, length, take}
 use Rattle.std.proofs.Common.{drop, refl, sym, ap, subst, ◌∙◌, append_assoc, arith}
-use Rattle.std.specs.Int.{w16, w32, w64, from_be_bytes, to_be_bytes}
+use Rattle.std.specs.Int.{w16, w32, w64, to_be_bytes}
 use Rattle.std.proofs.lemmas.Bool.{eqb-true}
 use Rattle.std.proofs.lemmas.Bool.Decides.{nat_tests}
-use Rattle.std.proofs.lemmas.List.{take_at, drop_at, take-append-drop, take-take, drop-drop, length-append, length-take, length-drop, nil_from_length}
+use Rattle.std.proofs.lemmas.List.{take_at, drop_at, take-append-drop, take-take, length-append, length-take, length-drop, nil_from_length}
 use Rattle.bk_base.specs.Bounds.{AreBytes}
 use Rattle.bk_base.specs.declared.limits.TheConstants.{LONGEST_VALUE, TOMBSTONE}
 use Rattle.bk_base.specs.declared.writes.Write.{Write}
