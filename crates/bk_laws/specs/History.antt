@@ -1,5 +1,6 @@
 -- A history: which replies are legal, and what each call changes.
-use Rattle.std.specs.Prelude.{◌≡◌, ℕ, ◌<◌, List, [], ◌∷◌, ◌++◌, Bool, true, false, ◌&&◌, ◌==◌, not, cond, Option, None, Some, is_some, is_none, map, filter, Contains}
+use Rattle.std.specs.Prelude.{◌≡◌, ℕ, ◌<◌, List, [], ◌∷◌, ◌++◌, Bool, true, false, ◌&&◌, ◌==◌, not, cond, Option, None}
+use Rattle.std.specs.Prelude.{Some, is_some, is_none, map, filter, Contains}
 use Rattle.std.specs.List.{list_any}
 use Rattle.std.specs.Str.{bytes_eq}
 use Rattle.bk_base.specs.declared.limits.TheConstants.{MOST_FOLDS}

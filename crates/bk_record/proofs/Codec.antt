@@ -1,9 +1,10 @@
 -- What stands at the front is read, and what was read stands there.
-use Rattle.std.proofs.Common.{◌≡◌, ℕ, ◌+◌, ◌^◌, ◌<◌, ◌≤◌, Bool, true, false, cond, eqb, List, ◌∷◌, ◌++◌, length, take, drop, refl, sym, ap, subst, ◌∙◌, append_assoc, arith}
-use Rattle.std.specs.Int.{w16, w32, w64, from_be_bytes, to_be_bytes}
+use Rattle.std.proofs.Common.{◌≡◌, ℕ, ◌+◌, ◌^◌, ◌<◌, ◌≤◌, Bool, true, false, cond, eqb, List, ◌∷◌, ◌++◌, length, take}
+use Rattle.std.proofs.Common.{drop, refl, sym, ap, subst, ◌∙◌, append_assoc, arith}
+use Rattle.std.specs.Int.{w16, w32, w64, to_be_bytes}
 use Rattle.std.proofs.lemmas.Bool.{eqb-true}
 use Rattle.std.proofs.lemmas.Bool.Decides.{nat_tests}
-use Rattle.std.proofs.lemmas.List.{take_at, drop_at, take-append-drop, take-take, drop-drop, length-append, length-take, length-drop, nil_from_length}
+use Rattle.std.proofs.lemmas.List.{take_at, drop_at, take-append-drop, take-take, length-append, length-take, length-drop, nil_from_length}
 use Rattle.bk_base.specs.Bounds.{AreBytes}
 use Rattle.bk_base.specs.declared.limits.TheConstants.{LONGEST_VALUE, TOMBSTONE}
 use Rattle.bk_base.specs.declared.writes.Write.{Write}
@@ -63,7 +64,8 @@ unfolding checksum_of
 checksum_is w = refl
 
 -- the write, from a header that says its numbers
-write_again : (h : Header) (w : Write) → FitsBody w.body → h.moment.0 ≡ w.moment.0 → h.ksz ≡ length w.key → h.vsz ≡ value_field w.body → h.seq ≡ w.seq.0 → write_in h (w.key ++ value_of w.body) ≡ w
+write_again : (h : Header) (w : Write) → FitsBody w.body → h.moment.0 ≡ w.moment.0 → h.ksz ≡ length w.key
+    → h.vsz ≡ value_field w.body → h.seq ≡ w.seq.0 → write_in h (w.key ++ value_of w.body) ≡ w
 write_again h w fits moment ksz vsz seq =
     let key : take h.ksz (w.key ++ value_of w.body) ≡ w.key = take_at w.key (value_of w.body) h.ksz (sym ksz) in
     let value : drop h.ksz (w.key ++ value_of w.body) ≡ value_of w.body = drop_at w.key (value_of w.body) h.ksz (sym ksz) in
@@ -106,11 +108,22 @@ fields_with moment ksz vsz seq = to_be_bytes w32 moment ++ to_be_bytes w16 ksz +
 regroup : (a b c d e r : List ℕ) → a ++ (b ++ (c ++ (d ++ (e ++ r)))) ≡ a ++ ((b ++ c ++ d ++ e) ++ r)
 regroup a b c d e r = simp append_assoc
 
-joined : (bytes a b c d e : List ℕ) → a ≡ take 4 (drop 0 bytes) → b ≡ take 4 (drop 4 bytes) → c ≡ take 2 (drop 8 bytes) → d ≡ take 4 (drop 10 bytes) → e ≡ take 8 (drop 14 bytes) → bytes ≡ a ++ ((b ++ c ++ d ++ e) ++ drop 22 bytes)
+joined : (bytes a b c d e : List ℕ) → a ≡ take 4 (drop 0 bytes) → b ≡ take 4 (drop 4 bytes) → c ≡ take 2 (drop 8 bytes)
+    → d ≡ take 4 (drop 10 bytes) → e ≡ take 8 (drop 14 bytes) → bytes ≡ a ++ ((b ++ c ++ d ++ e) ++ drop 22 bytes)
 joined bytes a b c d e p q r s t =
-    drop-cut 0 4 bytes a p ∙ ap (λ (x : List ℕ). a ++ x) (drop-cut 4 4 bytes b q ∙ ap (λ (x : List ℕ). b ++ x) (drop-cut 8 2 bytes c r ∙ ap (λ (x : List ℕ). c ++ x) (drop-cut 10 4 bytes d s ∙ ap (λ (x : List ℕ). d ++ x) (drop-cut 14 8 bytes e t)))) ∙ regroup a b c d e (drop 22 bytes)
+    drop-cut 0 4 bytes a p
+    ∙ ap (λ (x : List ℕ). a ++ x)
+    (drop-cut 4 4 bytes b q
+    ∙ ap (λ (x : List ℕ). b ++ x)
+    (drop-cut 8 2 bytes c r
+    ∙ ap (λ (x : List ℕ). c ++ x)
+    (drop-cut 10 4 bytes d s ∙ ap (λ (x : List ℕ). d ++ x) (drop-cut 14 8 bytes e t))))
+    ∙ regroup a b c d e (drop 22 bytes)
 
-header_first : (bytes : List ℕ) → AreBytes bytes → 22 ≤ length bytes → bytes ≡ to_be_bytes w32 (header_of bytes).crc ++ (fields_with (header_of bytes).moment.0 (header_of bytes).ksz (header_of bytes).vsz (header_of bytes).seq ++ drop 22 bytes)
+header_first : (bytes : List ℕ) → AreBytes bytes → 22 ≤ length bytes
+    → bytes ≡ to_be_bytes w32 (header_of bytes).crc ++
+    (fields_with (header_of bytes).moment.0 (header_of bytes).ksz (header_of bytes).vsz (header_of bytes).seq ++ drop 22
+    bytes)
 unfolding header_of
 header_first bytes fits long =
     joined bytes _ _ _ _ _ (to_be_bytes-from_be_bytes_4 bytes (omega arith) fits)
@@ -124,16 +137,22 @@ record Parts (bytes front fields : List ℕ) (size : ℕ) : Type 0 where
   pub covered : drop 4 (take size bytes) ≡ fields ++ drop 22 (take size bytes)
   pub whole : bytes ≡ front ++ (fields ++ drop 22 (take size bytes)) ++ drop size bytes
 
-parts : (bytes front fields : List ℕ) (size : ℕ) → length front ≡ 4 → length fields ≡ 18 → 22 ≤ size → bytes ≡ front ++ (fields ++ drop 22 bytes) → Parts bytes front fields size
+parts : (bytes front fields : List ℕ) (size : ℕ) → length front ≡ 4 → length fields ≡ 18 → 22 ≤ size
+    → bytes ≡ front ++ (fields ++ drop 22 bytes) → Parts bytes front fields size
 parts bytes front fields size four eighteen room is =
-    let head : take 22 (take size bytes) ≡ front ++ fields = take-take 22 size bytes room ∙ ap (take 22) (is ∙ sym (append_assoc front fields (drop 22 bytes))) ∙ take_at (front ++ fields) (drop 22 bytes) 22 (omega (arith, length-append front fields)) in
-    let text : take size bytes ≡ front ++ (fields ++ drop 22 (take size bytes)) = sym (take-append-drop 22 (take size bytes)) ∙ ap (λ (x : List ℕ). x ++ drop 22 (take size bytes)) head ∙ append_assoc front fields (drop 22 (take size bytes)) in
+    let head : take 22 (take size bytes) ≡ front ++ fields = take-take 22 size bytes room
+    ∙ ap (take 22) (is ∙ sym (append_assoc front fields (drop 22 bytes)))
+    ∙ take_at (front ++ fields) (drop 22 bytes) 22 (omega (arith, length-append front fields)) in
+    let text : take size bytes ≡ front ++ (fields ++ drop 22 (take size bytes)) =
+    sym (take-append-drop 22 (take size bytes)) ∙ ap (λ (x : List ℕ). x ++ drop 22 (take size bytes)) head
+    ∙ append_assoc front fields (drop 22 (take size bytes)) in
     record {
       covered = ap (drop 4) text ∙ drop_at front (fields ++ drop 22 (take size bytes)) 4 four;
       whole = sym (take-append-drop size bytes) ∙ ap (λ (x : List ℕ). x ++ drop size bytes) text;
     }
 
-body_says_by : (b : Bool) (vsz : ℕ) (value : List ℕ) → eqb vsz TOMBSTONE ≡ b → length value ≡ cond b 0 vsz → (value_field (cond b Gone (Put value)) ≡ vsz) × (value_of (cond b Gone (Put value)) ≡ value)
+body_says_by : (b : Bool) (vsz : ℕ) (value : List ℕ) → eqb vsz TOMBSTONE ≡ b → length value ≡ cond b 0 vsz
+    → (value_field (cond b Gone (Put value)) ≡ vsz) × (value_of (cond b Gone (Put value)) ≡ value)
 body_says_by true vsz value e len = (sym (eqb-true vsz TOMBSTONE e), sym (nil_from_length value len))
 body_says_by false vsz value e len = (len, refl)
 
@@ -148,10 +167,12 @@ header_below : (bytes : List ℕ) → AreBytes bytes → ((header_of bytes).mome
 unfolding header_of
 header_below bytes fits = (from_be_bytes_4-lt (drop 4 bytes) (AreBytes-drop 4 bytes fits), from_be_bytes_2-lt (drop 8 bytes) (AreBytes-drop 8 bytes fits))
 
-covered_is : (w : Write) (m k v s : ℕ) (body : List ℕ) → w.moment.0 ≡ m → length w.key ≡ k → value_field w.body ≡ v → w.seq.0 ≡ s → w.key ++ value_of w.body ≡ body → covered_of w ≡ fields_with m k v s ++ body
+covered_is : (w : Write) (m k v s : ℕ) (body : List ℕ) → w.moment.0 ≡ m → length w.key ≡ k → value_field w.body ≡ v
+    → w.seq.0 ≡ s → w.key ++ value_of w.body ≡ body → covered_of w ≡ fields_with m k v s ++ body
 unfolding covered_of fields_of
 covered_is w m k v s body em ek ev es eb =
-    append_assoc (fields_with w.moment.0 (length w.key) (value_field w.body) w.seq.0) w.key (value_of w.body) ∙ (λ i. fields_with (em i) (ek i) (ev i) (es i) ++ eb i)
+    append_assoc (fields_with w.moment.0 (length w.key) (value_field w.body) w.seq.0) w.key (value_of w.body)
+    ∙ (λ i. fields_with (em i) (ek i) (ev i) (es i) ++ eb i)
 
 record_is : (w : Write) (crc : ℕ) (covered : List ℕ) → checksum_of w ≡ crc → covered_of w ≡ covered → record_of w ≡ to_be_bytes w32 crc ++ covered
 unfolding record_of
@@ -166,7 +187,8 @@ pub record IsRead (bytes : List ℕ) : Type 0 where
   pub size : said_size (header_of bytes) ≡ size_of (read_write bytes)
   pub crc : (header_of bytes).crc ≡ checksum_of (read_write bytes)
 
-pub is_read : (bytes : List ℕ) → AreBytes bytes → 22 ≤ length bytes → said_size (header_of bytes) ≤ length bytes → (header_of bytes).crc ≡ computed_of bytes → IsSound (header_of bytes) → IsRead bytes
+pub is_read : (bytes : List ℕ) → AreBytes bytes → 22 ≤ length bytes → said_size (header_of bytes) ≤ length bytes
+    → (header_of bytes).crc ≡ computed_of bytes → IsSound (header_of bytes) → IsRead bytes
 is_read bytes fits long whole same sound =
     let h = header_of bytes in
     let size = said_size h in
