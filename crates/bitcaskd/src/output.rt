@@ -1,9 +1,9 @@
 //! The replies on their way out.
 ghost use Rattle.std.specs.Prelude.{◌≡◌, ◌++◌, [], IsTrue, OnOk, OnErr, List, ℕ, length};
 ghost use Rattle.bk_disk.specs.Causes.{IsCaused};
-ghost use Rattle.bitcaskd.specs.Output.{Wrote, LeftOver};
+ghost use Rattle.bk_disk.specs.Streams.{Wrote, LeftOver};
 
-use bk_disk::{Failed, Sink};
+use bk_disk::{Failed, Sink, write_all};
 
 /// Writes all replies that were gathered. After `Failed` the sink took a first part of them.
 pub fn flush<K: Sink>(sink: &mut K, replies: &mut Vec<u8>) -> Result<(), Failed>
@@ -17,20 +17,5 @@ pub fn flush<K: Sink>(sink: &mut K, replies: &mut Vec<u8>) -> Result<(), Failed>
 {
     write_all(sink, replies.as_slice())?;
     replies.clear();
-    Ok(())
-}
-
-/// Writes a whole piece.
-fn write_all<K: Sink>(sink: &mut K, piece: &[u8]) -> Result<(), Failed>
-    ensures wrote { IsTrue K.tells → OnOk result
-        (Wrote (K.written sink.old) (K.written sink.new) piece.now) }
-    ensures part { IsTrue K.tells → OnErr result
-        (LeftOver (K.written sink.old) (K.written sink.new) piece.now) }
-    ensures cause { IsCaused (K.faults sink.old) (K.faults sink.new) result }
-{
-    let mut at = 0;
-    while at < piece.len() {
-        at += sink.write(&piece[at..])?;
-    }
     Ok(())
 }
