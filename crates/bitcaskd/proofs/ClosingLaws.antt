@@ -1,7 +1,6 @@
 -- From the end of the talk, over the last sync, to what the whole run did.
-use Rattle.std.proofs.Common.{◌≡◌, ◌∙◌, ℕ, ◌-◌, ◌≤◌, List, [], ◌∷◌, ◌++◌, length, drop, Bool, ◌⊎◌, refl, sym, ap, subst, arith, inl, inr, IsTrue}
+use Rattle.std.proofs.Common.{◌≡◌, ◌∙◌, ℕ, ◌-◌, ◌≤◌, List, [], ◌∷◌, ◌++◌, length, drop, Bool, ◌⊎◌, refl, sym, ap, subst, arith, inl, inr, false, IsTrue, true}
 use Rattle.std.proofs.lemmas.List.{append-nil}
-use Rattle.std.proofs.lemmas.Bool.{cases_lt}
 use Rattle.bk_base.specs.declared.limits.TheConstants.{DEFAULT_MAX_FILE}
 use Rattle.bk_base.specs.declared.calls.Call.TheVariants.{Sync, Quiet}
 use Rattle.bk_base.specs.declared.calls.Answer.TheVariants.{Numbered, Done as done_answer}
@@ -16,7 +15,8 @@ use Rattle.bk_disk.specs.Told.{Image, Told}
 use Rattle.bk_laws.specs.History.{State}
 use Rattle.bk_laws.specs.Session.{all_exchanges, steps_of, replies_of}
 use Rattle.bitcaskd.specs.Closing.{ClosesBy, IsSyncedAt}
-use Rattle.bitcaskd.specs.Counts.{Counted}
+use Rattle.bk_disk.specs.Counts.{Counted}
+use Rattle.bk_disk.proofs.Counts.{counted_at_least, counted_exactly, counted_rise, counts_rose}
 use Rattle.bitcaskd.specs.Run.{Telling, Outside, IsBuilt, Reads, Writes, Closes, TakesMost, all_steps, Runs, IsImageAt, IsServed}
 use Rattle.bitcaskd.specs.Serving.{Site}
 use Rattle.bitcaskd.specs.Store.{Stands, IsImageOf}
@@ -124,9 +124,9 @@ unsynced tells start now site status s listed left closes image faults views mom
 
 -- the numbers of one more step
 with_step : (start now site : Site) (steps : List Step) (step : Step) → CountedOver start now steps
-    → Counted now.faults step.faults site.faults → site.views ≡ now.views → step.views ≡ 0 → CountedOver start site (steps ++ step ∷ [])
+    → Counted false now.faults step.faults site.faults → site.views ≡ now.views → step.views ≡ 0 → CountedOver start site (steps ++ step ∷ [])
 with_step start now site steps step so_far faults views none =
-    counts_on start now site steps step so_far faults (inl (omega (arith, views, none)))
+    counts_on start now site steps step so_far faults (counted_exactly now.views step.views site.views (omega (arith, views, none)))
 
 sync_step : Site → ℕ → Step
 sync_step now faults = step_of (record { caller = 0; call = Sync; reply = Numbered (record { 0 = now.index.last }) }) faults 0
@@ -135,11 +135,9 @@ quiet_step : ℕ → Step
 quiet_step faults = step_of (record { caller = 0; call = Quiet; reply = done_answer }) faults 0
 
 -- a count that rose, by at least 1
-risen : (before now : ℕ) → before ≤ now → Rose before now → (n : ℕ) × (1 ≤ n) × Counted before n now
-risen before now later rose = elim (cases_lt before now) [
-  | inl less ↦ (now - before, omega arith, inl (omega arith))
-  | inr not_less ↦ (1, omega arith, inr (omega arith))
-]
+risen : (before now : ℕ) → before ≤ now → Rose before now → (n : ℕ) × (1 ≤ n) × Counted false before n now
+risen before now later rose =
+    let (n, counted) = counts_rose before now later rose in (n, counted.some refl, counted_at_least true before n now counted)
 
 -- the run after a good sync
 synced_run : (tells : Telling) (start now : Scene) (site : Site) (status : Status) (s : Stopped tells start now status)
@@ -157,13 +155,13 @@ synced_run tells start now site status s listed stands closes image later views 
       exact_at status site.told.image log (image t ∙ exact_image now.site.told now.site.catalog now.site.index log holds),
     ))
     s.served
-    (with_step start.site now.site site (steps_of (all_exchanges s.talk)) (sync_step now.site (site.faults - now.site.faults)) s.counts (inl (omega arith)) views refl)
+    (with_step start.site now.site site (steps_of (all_exchanges s.talk)) (sync_step now.site (site.faults - now.site.faults)) s.counts (counted_rise now.site.faults site.faults later) views refl)
     (closes (site.faults - now.site.faults)) s.reads (λ out w. w) most moments
 
 -- the run after a sync that failed
 failed_run : (tells : Telling) (start now : Scene) (site : Site) (status result : Status) (s : Stopped tells start now status)
     → (IsTrue tells.disk → start.site.told.image ≡ []) → (IsTrue tells.disk → StandsAfter now.site (steps_of (all_exchanges s.talk)))
-    → (n : ℕ) → Closes tells.disk site.told result (quiet_step n ∷ []) → Counted now.site.faults n site.faults
+    → (n : ℕ) → Closes tells.disk site.told result (quiet_step n ∷ []) → Counted false now.site.faults n site.faults
     → (IsTrue tells.disk → site.told.image ≡ now.site.told.image) → site.views ≡ now.site.views → site.moments ≡ now.site.moments
     → (IsTrue tells.source → Reads result (drop start.taken start.whole) (drop now.taken now.whole) s.talk)
     → ((out : List ℕ) → Writes status start.sink_faults now.sink_faults out (replies_of s.talk.served) → Writes result start.sink_faults now.sink_faults out (replies_of s.talk.served))

@@ -1,5 +1,4 @@
 pub mod ClosingLaws
-pub mod Results
 pub mod RunLaws
 pub mod ServingLaws
 pub mod ShelfLaws

@@ -18,7 +18,8 @@ use Rattle.bk_disk.specs.Streams.{first_moment, later_moments}
 use Rattle.bk_laws.specs.Log.{live}
 use Rattle.bk_laws.specs.Session.{ShowsGet, Serves, call_of, named}
 use Rattle.bk_laws.specs.Wire.{request_text}
-use Rattle.bitcaskd.specs.Counts.{Counted, Counts}
+use Rattle.bk_disk.specs.Counts.{Counts}
+use Rattle.bk_disk.proofs.Counts.{counted_exactly, counted_rise}
 use Rattle.bitcaskd.specs.Serving.{Site, Leads, Served, Refused}
 use Rattle.bitcaskd.specs.Store.{Holds, IsImageOf, KeepsLog, PutDone, GetDone, put_of}
 use Rattle.bk_files.specs.Catalog.{Known}
@@ -34,10 +35,6 @@ abbrev pub answer_of : Option (List ℕ) → Answer
 answer_of None = Nothing
 answer_of (Some value) = Found value
 
--- a count that didn't fall rose by the difference
-pub rise : (before now : ℕ) → before ≤ now → Counted before (now - before) now
-rise before now later = inl (omega arith)
-
 get-leads : (log : List Write) (key : List ℕ) (now : Moment) (found : Option (List ℕ)) (faults views : ℕ) → found ≡ live log key now.0 0
     → Leads log (step_of (record { caller = 0; call = get_call key now; reply = answer_of found }) faults views) log
 get-leads log key now None faults views is = record { legal = sym is; state = refl }
@@ -48,7 +45,7 @@ pub get-served : (dt ct : Bool) (key : List ℕ) (now : Moment) (found : Option 
     → (IsTrue ct → now ≡ first_moment old.moments) → (IsTrue ct → new.moments ≡ later_moments old.moments)
     → (IsTrue dt → KeepsLog old.told old.catalog old.index new.told new.catalog new.index)
     → (IsTrue dt → GetDone old.told old.catalog old.index key found)
-    → old.faults ≤ new.faults → Counts old.views new.views
+    → old.faults ≤ new.faults → Counts false old.views new.views
     → Served dt ct (Get key) reply old new
 get-served dt ct key now found reply old new shows first later keeps done faults views = record {
   now = now;
@@ -60,7 +57,7 @@ get-served dt ct key now found reply old new shows first later keeps done faults
     get-leads log key now found (new.faults - old.faults) views.0 (done tells log now.0 h),
     keeps tells log h,
   );
-  counts = record { faults = rise old.faults new.faults faults; views = views.1 };
+  counts = record { faults = counted_rise old.faults new.faults faults; views = views.1 };
 }
 
 pub put-served : (dt ct : Bool) (key value : List ℕ) (seq : Seq) (now : Moment) (old new : Site)
@@ -74,14 +71,14 @@ put-served dt ct key value seq now old new first later done faults views = recor
   serves = (refl, refl);
   ticks = λ tells. (first tells, later tells);
   goes = λ tells log h. (log ++ put_of seq now key value ∷ [], record { legal = (done tells log h).0; state = refl }, (done tells log h).1);
-  counts = record { faults = rise old.faults new.faults faults; views = inl (omega (arith, views)) };
+  counts = record { faults = counted_rise old.faults new.faults faults; views = counted_exactly old.views 0 new.views (omega (arith, views)) };
 }
 
 -- a call that was refused adds a step that says nothing
 pub refused : (dt ct : Bool) (request : Request) (now : Moment) (old new : Site)
     → (IsTrue ct → now ≡ first_moment old.moments) → (IsTrue ct → new.moments ≡ later_moments old.moments)
     → (IsTrue dt → (log : List Write) → Holds old.told old.catalog old.index log → (tried : List Write) × (length tried ≤ 1) × IsImageOf new.told.image log tried)
-    → old.faults ≤ new.faults → Counts old.views new.views
+    → old.faults ≤ new.faults → Counts false old.views new.views
     → Refused dt ct request old new
 refused dt ct request now old new first later left faults views = record {
   now = now;
@@ -90,7 +87,7 @@ refused dt ct request now old new first later left faults views = record {
   ticks = λ tells. (first tells, later tells);
   leaves = λ tells log h. let (tried, few, image) = left tells log h in
       (log, tried, record { legal = tt; state = refl }, few, image);
-  counts = record { faults = rise old.faults new.faults faults; views = views.1 };
+  counts = record { faults = counted_rise old.faults new.faults faults; views = views.1 };
 }
 
 -- a call that was made and whose reply found no memory

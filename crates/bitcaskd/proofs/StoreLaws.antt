@@ -1,19 +1,14 @@
 -- What one more record does to the log and the table.
 use Rattle.std.proofs.Common.{◌≡◌, ◌∙◌, ℕ, ◌+◌, ◌-◌, ◌<◌, ◌≤◌, ◌⊎◌, List, [], ◌∷◌, ◌++◌, length, take, drop, Bool, true, false, cond, Option, Some, None, is_some, IsTrue, refl, sym, ap, subst, arith, inl, inr, append_assoc}
-use Rattle.std.proofs.lemmas.Bool.{cases_lt}
 use Rattle.std.specs.Int.{w32, to_be_bytes}
 use Rattle.std.specs.Str.{bytes_eq}
-use Rattle.std.proofs.lemmas.List.{append-nil, take-append-le, take-take, drop-append-le, drop-drop, length-append, length-drop}
-use Rattle.std.proofs.lemmas.List.{length-take-le}
-use Rattle.std.proofs.lemmas.Slice.{take-put_mid}
-use borrow.Rule.Slice.PartMut.{put_mid}
-use Rattle.std.proofs.Math.Seq.{drop-append-add, take-append-add, take-add, take-length}
+use Rattle.std.proofs.lemmas.List.{append-nil, take-append-le, drop-append-le, drop-drop, length-append, length-drop}
+use Rattle.std.proofs.Math.Seq.{drop-append-add, take-length}
 use Rattle.bk_base.specs.declared.numbers.Moment.{Moment}
 use Rattle.bk_base.specs.declared.numbers.Seq.{Seq}
 use Rattle.bk_base.specs.declared.writes.Write.{Write}
 use Rattle.bk_base.specs.declared.writes.Body.TheVariants.{Put}
 use Rattle.bk_disk.specs.Told.{Table, Image, Told, IsWell, at, names, bytes_of}
-use Rattle.bk_disk.specs.Causes.{bumped, most}
 use Rattle.bk_disk.specs.Stops.{IsSynced}
 use Rattle.bk_files.specs.Catalog.{Known, id_of, main}
 use Rattle.bk_files.specs.Files.{HalfRepaired, IsConsistentWith, Repaired, RepairedOf, Seen, SettledOf, Synchronized, name_of}
@@ -22,7 +17,6 @@ use Rattle.bk_laws.specs.Log.{winner, or_else, seq_after}
 use Rattle.bk_laws.proofs.LastWrites.{winner-append}
 use Rattle.bk_laws.specs.Record.{record_of, records_of, covered_of, fields_of, checksum_of, size_of}
 use Rattle.bitcaskd.specs.declared.index.Index.{Index}
-use Rattle.bitcaskd.specs.Counts.{Counts}
 use Rattle.bitcaskd.specs.Index.{Seat, look, AddsPlace, SamePlaces}
 use Rattle.bitcaskd.specs.Shelf.{Shelf, Extends, IsLeft, IsOn, filed, filed_from, files, max_file, place_for, put_on}
 use Rattle.bitcaskd.specs.Store.{HasValueAt, PlaceStands, Holds, IsImageOf, put_of}
@@ -146,20 +140,6 @@ kept t u c d x y log h same known stands image fronts = subst (λ i. Holds u d i
   each = λ key. subst (λ (i : Image). PlaceStands i (look x key) (winner log key)) (sym image) (h.each key);
 })
 
--- a slice that is filled as far as n bytes behind a, where a read put them
-pub filled : (a k n : ℕ) (xs ys left : List ℕ) → a ≤ length xs → length ys ≡ k → n ≤ k → take a xs ≡ take a left
-    → take n ys ≡ take n (drop a left) → take (a + n) (put_mid a k xs ys) ≡ take (a + n) left
-filled a k n xs ys left within long few same read =
-    let few_more : a + n ≤ a + length ys = omega arith in
-    let here : length (take a xs) ≡ a = length-take-le a xs within in
-    sym (take-take (a + n) (a + length ys) (put_mid a k xs ys) few_more)
-    ∙ ap (λ (l : List ℕ). take (a + n) l) (take-put_mid a k xs ys (a + length ys) refl within)
-    ∙ ap (λ (m : ℕ). take (m + n) (take a xs ++ ys)) (sym here)
-    ∙ take-append-add (take a xs) ys n
-    ∙ ap (λ (l : List ℕ). l ++ take n ys) same
-    ∙ ap (λ (l : List ℕ). take a left ++ l) read
-    ∙ sym (take-add a n left)
-
 -- a good sync leaves nothing unsynced
 pub synced_all : (b : Bool) (s u : Seen) (x : Index) (log : List Write) → IsTrue b → Holds s.told s.catalog x log → Synchronized b s u
     → (u.told.image ≡ s.told.image) × IsSynced u.told
@@ -197,11 +177,6 @@ fresh_holds t c x empty well stands limit number none places last = record {
   last = last;
   each = λ key. subst (λ (o : Option Seat). PlaceStands t.image o None) (sym (places key)) tt;
 }
-
--- a count that may have been bumped rose by a number, or stands at its last value
-pub bumped_counts : (b : Bool) (n m : ℕ) → m ≡ bumped b n → Counts n m
-bumped_counts false n m is = (0, inl (omega (arith, is)))
-bumped_counts true n m is = elim (cases_lt n most) [ inl low ↦ (1, inl (omega (arith, is, low))) | inr high ↦ (1, inr (omega (arith, is, high))) ]
 
 -- what is left of a record's text is what is left of its write
 pub left_text : (image : Image) (s : Shelf) (text : List ℕ) (w : Write) → text ≡ record_of w → IsLeft image s text → IsLeft image s (records_of (w ∷ []))

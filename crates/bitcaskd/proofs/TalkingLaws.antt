@@ -26,8 +26,9 @@ use Rattle.bitcaskd.specs.declared.input.Input.{Input}
 use Rattle.bitcaskd.specs.declared.input.Input.TheVariants.{Taken, Ended, Long as took_most, Failed, Memory as no_memory}
 use Rattle.bitcaskd.specs.declared.refusals.Refusal.{Refusal}
 use Rattle.bitcaskd.specs.declared.refusals.Refusal.TheVariants.{Memory as refused_memory, Disk as refused_disk}
-use Rattle.bitcaskd.specs.Counts.{Counted}
-use Rattle.bitcaskd.specs.Output.{Wrote}
+use Rattle.bk_disk.specs.Counts.{Counted}
+use Rattle.bk_disk.proofs.Counts.{counted_exactly, counted_on}
+use Rattle.bk_disk.specs.Streams.{Wrote}
 use Rattle.bitcaskd.specs.Run.{Telling, telling, Reads, Writes, WrittenPart, TakesMost, most_taken, faults_in, views_in, IsServed, ReadsAll}
 use Rattle.bitcaskd.specs.Serving.{Site, Ticks, plain, Leads, Answered, Refused}
 use Rattle.bitcaskd.specs.Store.{Holds}
@@ -73,19 +74,13 @@ leads_on steps log step later so_far next =
           ∙ ap (λ (s : State). after s step.entry) so_far.state ∙ next.state;
     }
 
-Counted-on : (b n m k c : ℕ) → Counted b n m → Counted m k c → Counted b (n + k) c
-Counted-on b n m k c (inl e) (inl f) = inl (omega arith)
-Counted-on b n m k c (inl e) (inr h) = inr h
-Counted-on b n m k c (inr h) (inl f) = inr (omega arith)
-Counted-on b n m k c (inr h) (inr i) = inr i
-
 pub counts_on : (old now new : Site) (steps : List Step) (step : Step) → CountedOver old now steps
-    → Counted now.faults step.faults new.faults → Counted now.views step.views new.views → CountedOver old new (steps ++ step ∷ [])
+    → Counted false now.faults step.faults new.faults → Counted false now.views step.views new.views → CountedOver old new (steps ++ step ∷ [])
 counts_on old now new steps step so_far faults views = record {
-  faults = subst (λ (n : ℕ). Counted old.faults n new.faults) (sym (sum_by-snoc (λ (s : Step). s.faults) steps step))
-      (Counted-on old.faults (faults_in steps) now.faults step.faults new.faults so_far.faults faults);
-  views = subst (λ (n : ℕ). Counted old.views n new.views) (sym (sum_by-snoc (λ (s : Step). s.views) steps step))
-      (Counted-on old.views (views_in steps) now.views step.views new.views so_far.views views);
+  faults = subst (λ (n : ℕ). Counted false old.faults n new.faults) (sym (sum_by-snoc (λ (s : Step). s.faults) steps step))
+      (counted_on false false old.faults (faults_in steps) now.faults step.faults new.faults so_far.faults faults);
+  views = subst (λ (n : ℕ). Counted false old.views n new.views) (sym (sum_by-snoc (λ (s : Step). s.views) steps step))
+      (counted_on false false old.views (views_in steps) now.views step.views new.views so_far.views views);
 }
 
 Ticks-snoc : (ms : List Moment) (m : Moment) (a b c : List Moment) → Ticks ms a b → Ticks (m ∷ []) b c → Ticks (ms ++ m ∷ []) a c
@@ -533,7 +528,7 @@ nothing_yet tells start stream holds empty none = record {
   made = λ t. ([], sym (append-nil start.written), refl);
   ticks = λ t. refl;
   stands = λ t. ([], record { legal = tt; state = refl }, holds t);
-  counts = record { faults = inl (omega arith); views = inl (omega arith) };
+  counts = record { faults = counted_exactly start.site.faults 0 start.site.faults (omega arith); views = counted_exactly start.site.views 0 start.site.views (omega arith) };
   sink = omega arith;
 }
 
@@ -561,8 +556,3 @@ pub fewer_asked : (request : Request) (old new : Stream) → StandsIn old.rest r
     → work_left new < work_left old
 fewer_asked request old new stands offset within =
     omega (arith, offset, ap length stands.whole, length-append (request_text request) new.rest, some_text request, within)
-
--- a count that rose since, rose since the start
-pub rose_since : (start n before now : ℕ) → Counted start n before → Rose before now → Rose start now
-rose_since start n before now (inl e) rose = omega arith
-rose_since start n before now (inr top) rose = omega arith

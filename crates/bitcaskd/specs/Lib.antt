@@ -1,8 +1,6 @@
 pub mod Closing
-pub mod Counts
 pub mod Found
 pub mod Index
-pub mod Output
 pub mod Refusal
 pub mod Run
 pub mod Serving

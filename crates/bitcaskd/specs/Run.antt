@@ -1,5 +1,5 @@
 -- What one run of `pipe` does, from the bytes of its source to the bytes of its sink.
-use Rattle.std.specs.Prelude.{◌≡◌, ◌≢◌, ◌⊎◌, ℕ, ◌+◌, ◌<◌, ◌≤◌, List, [], ◌∷◌, ◌++◌, Bool, IsTrue, length, drop, sum_by, codes}
+use Rattle.std.specs.Prelude.{◌≡◌, ◌≢◌, ◌⊎◌, ℕ, ◌+◌, ◌<◌, ◌≤◌, List, [], ◌∷◌, ◌++◌, Bool, IsTrue, length, drop, sum_by, codes, false}
 use Rattle.bk_base.specs.declared.limits.TheConstants.{LONGEST_SESSION}
 use Rattle.bk_base.specs.declared.numbers.Moment.{Moment}
 use Rattle.bk_base.specs.declared.histories.Opening.{Opening}
@@ -14,7 +14,7 @@ use Rattle.bk_disk.specs.Told.{Image, Told}
 use Rattle.bk_laws.specs.History.{IsLegalHistory, log_of}
 use Rattle.bk_laws.specs.Wire.{IsPartial, NoneStands}
 use Rattle.bk_laws.specs.Session.{Transcript, IsTranscript, all_exchanges, requests_of, replies_of, steps_of, moments_of}
-use Rattle.bitcaskd.specs.Counts.{Counted}
+use Rattle.bk_disk.specs.Counts.{Counted}
 use Rattle.bitcaskd.specs.Serving.{Ticks}
 use Rattle.bitcaskd.specs.Shelf.{filed, files}
 use Rattle.bitcaskd.specs.Store.{IsImageOf}
@@ -167,8 +167,8 @@ pub record Runs (tells : Telling) (old new : Outside) (status : Status) : Type 0
   pub image : IsTrue tells.disk → IsImageAt status new.told.image (log_of opening (all_steps talk closing))
   pub from : old.faults ≤ opening.faults
   pub from_views : old.views ≤ opening.views
-  pub faults : Counted opening.faults (faults_in (all_steps talk closing)) new.faults
-  pub views : Counted opening.views (views_in (all_steps talk closing)) new.views
+  pub faults : Counted false opening.faults (faults_in (all_steps talk closing)) new.faults
+  pub views : Counted false opening.views (views_in (all_steps talk closing)) new.views
 
 -- The words are those of `pipe` with a directory.
 abbrev pub IsPipe : List (List ℕ) → Type 0

@@ -1,5 +1,5 @@
 -- What serving one request does to the store, the clock and the history.
-use Rattle.std.specs.Prelude.{◌≡◌, ◌⊎◌, ℕ, ◌≤◌, List, [], ◌∷◌, ◌++◌, Bool, IsTrue, length}
+use Rattle.std.specs.Prelude.{◌≡◌, ◌⊎◌, ℕ, ◌≤◌, List, [], ◌∷◌, ◌++◌, Bool, IsTrue, length, false}
 use Rattle.bk_base.specs.declared.numbers.Moment.{Moment}
 use Rattle.bk_base.specs.declared.calls.Entry.{Entry}
 use Rattle.bk_base.specs.declared.histories.Step.{Step}
@@ -13,7 +13,7 @@ use Rattle.bk_laws.specs.History.{State, IsReply, after}
 use Rattle.bk_laws.specs.Session.{Serves, call_of, named}
 use Rattle.bk_laws.specs.Wire.{reply_text}
 use Rattle.bitcaskd.specs.declared.index.Index.{Index}
-use Rattle.bitcaskd.specs.Counts.{Counted}
+use Rattle.bk_disk.specs.Counts.{Counted}
 use Rattle.bitcaskd.specs.Store.{Holds, IsImageOf}
 
 -- what the store shows, and the moments that the clock has still to give
@@ -63,8 +63,8 @@ Leaves old new step =
 
 -- how the counts of faults and of fallible views went on in the step
 pub record CountsOn (old new : Site) (step : Step) : Type 0 where
-  pub faults : Counted old.faults step.faults new.faults
-  pub views : Counted old.views step.views new.views
+  pub faults : Counted false old.faults step.faults new.faults
+  pub views : Counted false old.views step.views new.views
 
 -- The request was served with this reply.
 pub record Served (disk_tells clock_tells : Bool) (request : Request) (reply : Reply) (old new : Site) : Type 0 where

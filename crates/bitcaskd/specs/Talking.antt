@@ -12,8 +12,8 @@ use Rattle.bk_laws.specs.History.{IsLegal, state_of, entries}
 use Rattle.bk_laws.specs.Session.{Exchange, IsExchange, Transcript, IsTranscript, all_exchanges, requests_of, replies_of, steps_of, moments_of}
 use Rattle.bk_laws.specs.Wire.{StandsIn}
 use Rattle.bk_wire.specs.Stream.{Stream, taken}
-use Rattle.bitcaskd.specs.Counts.{Counted}
-use Rattle.bitcaskd.specs.Output.{Wrote, LeftOver}
+use Rattle.bk_disk.specs.Counts.{Counted}
+use Rattle.bk_disk.specs.Streams.{Wrote, LeftOver}
 use Rattle.bitcaskd.specs.Run.{Telling, telling, Outside, Reads, Writes, TakesMost, most_taken, faults_in, views_in, IsServed}
 use Rattle.bitcaskd.specs.Serving.{Site, Ticks, plain}
 use Rattle.bitcaskd.specs.Shelf.{FitsWithin}
@@ -60,8 +60,8 @@ LeftAfter site steps = (log tried : List Write) × LeadTo steps log × (length t
 
 -- the counts of faults and of fallible views went on over the steps
 pub record CountedOver (old new : Site) (steps : List Step) : Type 0 where
-  pub faults : Counted old.faults (faults_in steps) new.faults
-  pub views : Counted old.views (views_in steps) new.views
+  pub faults : Counted false old.faults (faults_in steps) new.faults
+  pub views : Counted false old.views (views_in steps) new.views
 
 -- Between two requests: these turns were served, the reader holds what was taken behind their
 -- requests, and what was written and gathered are their replies.

@@ -1,9 +1,9 @@
 //! The replies on their way out.
 ghost use Rattle.std.specs.Prelude.{◌≡◌, ◌++◌, [], IsTrue, OnOk, OnErr, List, ℕ, length};
 ghost use Rattle.bk_disk.specs.Causes.{IsCaused};
-ghost use Rattle.bitcaskd.specs.Output.{Wrote, LeftOver};
+ghost use Rattle.bk_disk.specs.Streams.{Wrote, LeftOver};
 
-use bk_disk::{Failed, Sink};
+use bk_disk::{Failed, Sink, write_all};
 
 /// The most room that is kept for the next replies. Where a large value took more, all of it is given
 /// back: a part that stayed would keep the allocator from returning what was freed beside it.
@@ -23,21 +23,6 @@ pub fn flush<K: Sink>(sink: &mut K, replies: &mut Vec<u8>) -> Result<(), Failed>
     replies.clear();
     if replies.capacity() > KEPT {
         replies.shrink_to_fit();
-    }
-    Ok(())
-}
-
-/// Writes a whole piece.
-fn write_all<K: Sink>(sink: &mut K, piece: &[u8]) -> Result<(), Failed>
-    ensures wrote { IsTrue K.tells → OnOk result
-        (Wrote (K.written sink.old) (K.written sink.new) piece.now) }
-    ensures part { IsTrue K.tells → OnErr result
-        (LeftOver (K.written sink.old) (K.written sink.new) piece.now) }
-    ensures cause { IsCaused (K.faults sink.old) (K.faults sink.new) result }
-{
-    let mut at = 0;
-    while at < piece.len() {
-        at += sink.write(&piece[at..])?;
     }
     Ok(())
 }

@@ -3,7 +3,7 @@ ghost use Rattle.std.specs.Prelude.{◌≡◌, ◌+◌, ◌*◌, ◌^◌, ◌<�
 ghost use Rattle.bk_disk.specs.Causes.{IsCaused, Rose};
 ghost use Rattle.bk_disk.specs.Stops.{IsSynced};
 ghost use Rattle.bk_files.specs.Catalog.{id_of};
-ghost use Rattle.bitcaskd.specs.Counts.{Counts};
+ghost use Rattle.bk_disk.specs.Counts.{Counts};
 ghost use Rattle.bitcaskd.specs.Index.{look};
 ghost use Rattle.bitcaskd.specs.Shelf.{FitsWithin};
 ghost use Rattle.bitcaskd.specs.Store.{Holds, Stands, KeepsLog, PutDone, PutRefused, GetDone, put_of, next_of};
@@ -14,7 +14,7 @@ use crate::places::Place;
 use crate::refusals::Refusal;
 use bk_base::limits::DEFAULT_MAX_FILE;
 use bk_base::{Body, FileId, Key, Memory, Moment, Seq, Value, Write};
-use bk_disk::{Disk, DiskError, Failed, View};
+use bk_disk::{Disk, DiskError, Failed, View, read_exact};
 use bk_files::Files;
 use bk_record::encode;
 use std::alloc::Global;
@@ -110,7 +110,7 @@ impl<D: Disk> Store<D> {
             self.old.files.catalog self.old.index self.new.files.told
             self.new.files.catalog self.new.index }
         ensures faults { self.old.files.faults ≤ self.new.files.faults }
-        ensures views { Counts (self.old.files.fallible_views)
+        ensures views { Counts false (self.old.files.fallible_views)
             (self.new.files.fallible_views) }
         ensures disk { IsErrOf result Refusal.Disk → Rose (self.old.files.faults)
             (self.new.files.faults) ⊎ Rose (self.old.files.fallible_views)
@@ -168,22 +168,8 @@ fn read_value<V: View + Drop>(alloc: Global, mut view: V, place: Place) -> Resul
     ensures disk { IsErrOf result Refusal.Disk → V.fallible view ≡ true }
 {
     let mut bytes: Vec<u8> = zeros(alloc, place.len)?;
-    fill(&mut view, bytes.as_mut_slice())?;
+    read_exact(&mut view, bytes.as_mut_slice())?;
     Ok(Value::new(bytes).unwrap())
-}
-
-/// Fills a slice from a view.
-fn fill<V: View>(view: &mut V, into: &mut [u8]) -> Result<(), Failed>
-    requires { V.rest view.old ≡ length into.old }
-    ensures bytes { IsTrue V.tells → OnOk result
-        (into.new ≡ take (length into.old) (V.left view.old)) }
-    ensures failed { OnErr result (V.fallible view.old ≡ true) }
-{
-    let mut at = 0;
-    while at < into.len() {
-        at += view.read(&mut into[at..])?;
-    }
-    Ok(())
 }
 
 /// The length of a value.

@@ -5,12 +5,16 @@ use Rattle.std.specs.declared.option.Option.TheVariants.{None, Some}
 use Rattle.std.specs.Option.{option_map, is_some, IsSome, IsSomeAnd, unwrap_or}
 use Rattle.bk_base.specs.declared.names.Name.{Name}
 use Rattle.bk_disk.specs.Names.{same}
-use Rattle.bk_disk.specs.Told.{untold, Table, Image, Front, Told, at, names, IsOnce, changed, bytes_of, IsOurs, IsAbsent, IsOneThere, IsWell}
+use Rattle.bk_disk.specs.Told.{untold, Table, Image, Front, Told, at, names, IsOnce, changed, bytes_of, IsOurs, IsLent, IsAbsent, IsOneThere, IsWell}
 use Rattle.bk_disk.specs.Calls.{Becomes, Appended, Synced, Cut, Made, Removed, Renamed, Returned, fresh, pending_more, all_synced, brought_back}
 use Rattle.std.proofs.lemmas.Bool.{cases_Bool}
 use Rattle.std.proofs.lemmas.List.{take_all}
 use Rattle.bk_disk.proofs.Names.{same_eq}
-use Rattle.bk_disk.proofs.Tables.{at-changed, at-changed_other, at-with_name, at-without, names-changed, names-with_name, names-without, names-renamed, is_some-at, has, names_renamed, names_renamed-absent, IsOnce-append, IsOnce-without, IsOnce-renamed, renamed-differs, without-differs}
+use Rattle.bk_disk.proofs.Tables.{at-changed, at-changed_other, at-with_name, at-without}
+use Rattle.bk_disk.proofs.Tables.{names-changed, names-with_name, names-without, names-renamed}
+use Rattle.bk_disk.proofs.Tables.{is_some-at, has, names_renamed, names_renamed-absent}
+use Rattle.bk_disk.proofs.Tables.{IsOnce-append, IsOnce-without, IsOnce-renamed, at-renamed}
+use Rattle.bk_disk.proofs.Tables.{at-renamed_from, renamed-absent, renamed-differs, without-differs}
 
 -- The bytes of a file after an edit
 
@@ -32,7 +36,8 @@ there-changed n m f t = is_some-at m (changed n f t) ∙ ap (λ ns. has ns m) (n
 pub there_in_both : (t : Told) (n : Name) → IsWell t → is_some (at t.fronts n) ≡ is_some (at t.image n)
 there_in_both t n w = is_some-at n t.fronts ∙ ap (λ ns. has ns n) w.paired ∙ sym (is_some-at n t.image)
 
-pub well_changed : (n m : Name) (f : List ℕ → List ℕ) (g : Front → Front) (old new : Told) → Becomes (changed n f) (changed m g) old new → IsWell old → IsWell new
+pub well_changed : (n m : Name) (f : List ℕ → List ℕ) (g : Front → Front) (old new : Told)
+    → Becomes (changed n f) (changed m g) old new → IsWell old → IsWell new
 well_changed n m f g old new b w = record {
   once = rw (b.image, names-changed) w.once;
   paired = rw (b.image, b.fronts, names-changed, names-changed) w.paired;
@@ -90,7 +95,8 @@ made_ours n old new w absent b =
     let no_front : is_some (at old.fronts n) ≡ false = there_in_both old n w ∙ absent in
     (rw (b.image, at-with_name n [] old.image absent) refl, rw (b.fronts, at-with_name n (fresh false) old.fronts no_front) refl)
 
-still_ours : (n m : Name) (f : Front → Front) (fronts : Table Front) → ((x : Front) → (f x).lent ≡ x.lent) → IsSomeAnd (at fronts n) (λ x. x.lent ≡ false) → IsSomeAnd (at (changed m f fronts) n) (λ x. x.lent ≡ false)
+still_ours : (n m : Name) (f : Front → Front) (fronts : Table Front) → ((x : Front) → (f x).lent ≡ x.lent)
+    → IsSomeAnd (at fronts n) (λ x. x.lent ≡ false) → IsSomeAnd (at (changed m f fronts) n) (λ x. x.lent ≡ false)
 still_ours n m f fronts keeps ours =
     elim (cases_Bool (same n m)) [
       | inl p ↦ subst (λ k. IsSomeAnd (at (changed k f fronts) n) (λ x. x.lent ≡ false)) (same_eq n m p) (rw at-changed (go (at fronts n) ours))
@@ -101,8 +107,11 @@ still_ours n m f fronts keeps ours =
       go None h = absurd h
 
 pub appended_ours : (n m : Name) (count : ℕ) (piece : List ℕ) (old new : Told) → Appended m count piece old new → IsOurs n old → IsOurs n new
-appended_ours n m count piece old new b ours =
-    (rw (b.image, there-changed) ours.0, rw b.fronts (still_ours n m (pending_more (length (bytes_of m old.image ++ take count piece)) piece) old.fronts (λ x. refl) ours.1))
+appended_ours n m count piece old new b ours = (
+  rw (b.image, there-changed) ours.0,
+  rw b.fronts (still_ours n m
+      (pending_more (length (bytes_of m old.image ++ take count piece)) piece) old.fronts (λ x. refl) ours.1),
+)
 
 pub synced_ours : (n m : Name) (old new : Told) → Synced m old new → IsOurs n old → IsOurs n new
 synced_ours n m old new b ours = (rw b.image ours.0, rw b.fronts (still_ours n m (all_synced (bytes_of m old.image)) old.fronts (λ x. refl) ours.1))
@@ -112,10 +121,12 @@ cut_ours n m len old new b ours = (rw (b.image, there-changed) ours.0, rw b.fron
 
 -- The bytes of the file after each call on it
 
-pub appended_bytes : (n : Name) (count : ℕ) (piece : List ℕ) (old new : Told) → IsOurs n old → Appended n count piece old new → bytes_of n new.image ≡ bytes_of n old.image ++ take count piece
+pub appended_bytes : (n : Name) (count : ℕ) (piece : List ℕ) (old new : Told) → IsOurs n old
+    → Appended n count piece old new → bytes_of n new.image ≡ bytes_of n old.image ++ take count piece
 appended_bytes n count piece old new ours b = rw b.image (bytes_of-changed n (λ bytes. bytes ++ take count piece) old.image ours.0)
 
-pub appended_whole : (n : Name) (piece : List ℕ) (old new : Told) → IsOurs n old → Appended n (length piece) piece old new → bytes_of n new.image ≡ bytes_of n old.image ++ piece
+pub appended_whole : (n : Name) (piece : List ℕ) (old new : Told) → IsOurs n old
+    → Appended n (length piece) piece old new → bytes_of n new.image ≡ bytes_of n old.image ++ piece
 appended_whole n piece old new ours b =
     appended_bytes n (length piece) piece old new ours b ∙ ap (λ bytes. bytes_of n old.image ++ bytes) (take_all (length piece) piece (omega arith))
 
@@ -128,10 +139,48 @@ made_bytes n is_lent old new absent b = rw (b.image, at-with_name n [] old.image
 pub removed_absent : (n : Name) (old new : Told) → IsWell old → Removed n old new → IsAbsent n new.image
 removed_absent n old new w b = rw (b.image, at-without n old.image w.once) refl
 
--- A renaming and a removal of a file that is there show in what is told
-
 only_from : (from to : Name) (image : Image) → IsOneThere from to image → is_some (at image from) ≡ true → is_some (at image to) ≡ false
 only_from from to image one there = grind (arith, one, there)
+
+pub made_lent : (n : Name) (old new : Told) → IsWell old → IsAbsent n old.image → Made n true old new → IsLent n new
+made_lent n old new w absent b =
+    let no_front : is_some (at old.fronts n) ≡ false = there_in_both old n w ∙ absent in (
+      rw (b.image, at-with_name n [] old.image absent) refl,
+      rw (b.fronts, at-with_name n (fresh true) old.fronts no_front) refl,
+    )
+
+pub returned_bytes : (n : Name) (bytes : List ℕ) (old new : Told) → IsLent n old → Returned n bytes old new
+    → bytes_of n new.image ≡ bytes
+returned_bytes n bytes old new lent b = rw b.image (bytes_of-changed n (λ _. bytes) old.image lent.0)
+
+pub returned_ours : (n : Name) (bytes : List ℕ) (old new : Told) → IsLent n old → Returned n bytes old new → IsOurs n new
+returned_ours n bytes old new lent b =
+    (rw (b.image, there-changed) lent.0, rw (b.fronts, at-changed) (go (at old.fronts n) lent.1)) where
+      go : (o : Option Front) → IsSomeAnd o (λ f. f.lent ≡ true) → IsSomeAnd (option_map (brought_back bytes) o) (λ f. f.lent ≡ false)
+      go (Some f) h = refl
+      go None h = absurd h
+
+-- of a file that is there the new name has what the old one had
+pub renamed_to : (from to : Name) (old new : Told) → IsOneThere from to old.image → is_some (at old.image from) ≡ true
+    → Renamed from to old new → at new.image to ≡ at old.image from
+renamed_to from to old new one there b =
+    ap (λ (t : Image). at t to) b.image ∙ at-renamed from to old.image there (only_from from to old.image one there)
+
+pub renamed_bytes : (from to : Name) (old new : Told) → IsOneThere from to old.image → is_some (at old.image from) ≡ true
+    → Renamed from to old new → bytes_of to new.image ≡ bytes_of from old.image
+renamed_bytes from to old new one there b =
+    ap (λ (o : Option (List ℕ)). unwrap_or o []) (renamed_to from to old new one there b)
+
+-- the old name is gone
+pub renamed_from : (from to : Name) (old new : Told) → IsWell old → same from to ≡ false → Renamed from to old new
+    → IsAbsent from new.image
+renamed_from from to old new w apart b = rw b.image (ap is_some (at-renamed_from from to old.image w.once apart))
+
+-- a renaming that was done before changes nothing
+pub renamed_already : (from to : Name) (old new : Told) → IsAbsent from old.image → Renamed from to old new → new.image ≡ old.image
+renamed_already from to old new absent b = b.image ∙ renamed-absent from to old.image absent
+
+-- A renaming and a removal of a file that is there show in what is told
 
 pub renamed_shows : (from to : Name) (old new : Told) → IsOneThere from to old.image → is_some (at old.image from) ≡ true
     → Renamed from to old new → new ≡ old → ⊥

@@ -5,3 +5,8 @@ pub mod Moments
 pub mod Unique
 pub mod Still
 pub mod Counts
+pub mod Results
+pub mod Streams
+pub mod Frames
+pub mod Leaves
+pub mod Listings

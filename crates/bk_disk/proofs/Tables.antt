@@ -1,5 +1,5 @@
 -- What edits of a table do to the values at its names.
-use Rattle.std.proofs.Common.{◌≡◌, ◌+◌, Bool, true, false, cond, List, [], ◌∷◌, ◌++◌, length, refl, sym, ◌∙◌, ap, arith, inl, inr}
+use Rattle.std.proofs.Common.{◌≡◌, ◌+◌, Bool, true, false, cond, List, [], ◌∷◌, ◌++◌, length, refl, sym, ◌∙◌, ap, subst, arith, inl, inr}
 use Rattle.std.specs.declared.option.Option.TheVariants.{None, Some}
 use Rattle.std.specs.Option.{option_map, is_some}
 use Rattle.std.proofs.lemmas.Bool.{cases_Bool, true≢false}
@@ -39,7 +39,7 @@ pub at-without_other : {X : Type 0} (n m : Name) (t : Table X) → same m n ≡ 
 at-without_other n m [] h = refl
 at-without_other n m (e ∷ es) h = grind (arith, at-without_other n m es h, same_eq)
 
-at-not_in : {X : Type 0} (n : Name) (t : Table X) → IsNotIn n (names t) → at t n ≡ None
+pub at-not_in : {X : Type 0} (n : Name) (t : Table X) → IsNotIn n (names t) → at t n ≡ None
 at-not_in n [] h = refl
 at-not_in n (e ∷ es) h = rw h.0 (at-not_in n es h.1)
 
@@ -58,6 +58,25 @@ at-renamed from to (e ∷ es) h k = grind (arith, at-renamed from to es, same_re
 pub renamed-absent : {X : Type 0} (from to : Name) (t : Table X) → is_some (at t from) ≡ false → renamed from to t ≡ t
 renamed-absent from to [] h = refl
 renamed-absent from to (e ∷ es) h = grind (arith, renamed-absent from to es)
+
+pub at-renamed_from : {X : Type 0} (from to : Name) (t : Table X) → IsOnce (names t) → same from to ≡ false
+    → at (renamed from to t) from ≡ None
+at-renamed_from from to [] once apart = refl
+at-renamed_from from to (e ∷ es) once apart =
+    elim (cases_Bool (same from e.0)) [
+      | inl p ↦ rw (p, apart) (at-not_in from es (rw (same_eq from e.0 p) once.0))
+      | inr p ↦ rw (p, p) (at-renamed_from from to es once.1 apart)
+    ]
+
+-- a table without a name has what it had at the others
+pub at-fewer : {X : Type 0} (n m : Name) (x : X) (t : Table X) → IsOnce (names t) → at (without n t) m ≡ Some x → at t m ≡ Some x
+at-fewer n m x t once is =
+    elim (cases_Bool (same m n)) [
+      | inl p ↦
+          let none : at (without n t) m ≡ None = subst (λ (k : Name). at (without n t) k ≡ None) (sym (same_eq m n p)) (at-without n t once) in
+          absurd (cc (sym is ∙ none))
+      | inr p ↦ sym (at-without_other n m t p) ∙ is
+    ]
 
 -- a removal and a renaming show: the table isn't what it was
 pub without-fewer : {X : Type 0} (n : Name) (t : Table X) → is_some (at t n) ≡ true → length (without n t) + 1 ≡ length t

@@ -4,8 +4,8 @@ use Rattle.bk_base.specs.declared.names.Name.{Name}
 use Rattle.bk_disk.specs.Causes.{bumped}
 use Rattle.bk_disk.specs.Told.{Table, Image, Front, Told, changed, with_name, without, renamed, bytes_of, is_within}
 
--- A stop before the change still counts: the clock goes on, and the fronts of before are kept.
--- A change that no stop can tell may be left out.
+-- A crash before the change still counts: the clock goes on, and the fronts of before are kept.
+-- A change that no crash can tell may be left out.
 abbrev pub Passes : Told → Told → Type 0
 Passes old new =
     ((new.past ≡ old.past) × (new.fronts ≡ old.fronts)) ⊎ (new.past ≡ old.past ++ old.fronts ∷ [])
@@ -42,7 +42,7 @@ Appended name n piece old new =
 abbrev pub Synced : Name → Told → Told → Type 0
 Synced name old new = Becomes (λ image. image) (changed name (all_synced (bytes_of name old.image))) old new
 
--- a stop knows nothing of a cut
+-- a crash knows nothing of a cut
 abbrev pub Cut : Name → ℕ → Told → Told → Type 0
 Cut name len = Becomes (changed name (λ b. take len b)) (λ fronts. fronts)
 

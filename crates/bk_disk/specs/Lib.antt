@@ -1,4 +1,5 @@
 pub mod Causes
+pub mod Counts
 pub mod Streams
 pub mod Names
 pub mod Told

@@ -1,5 +1,5 @@
--- What reads and moments give.
-use Rattle.std.specs.Prelude.{◌≡◌, ℕ, ◌+◌, ◌≤◌, List, [], ◌∷◌, length, take, drop}
+-- What reads and moments give, and what a sink takes.
+use Rattle.std.specs.Prelude.{◌≡◌, ℕ, ◌+◌, ◌≤◌, List, [], ◌∷◌, ◌++◌, length, take, drop}
 use Rattle.bk_base.specs.declared.numbers.Moment.{Moment}
 
 -- a read of a source took n bytes of the whole input, which now stand at the front of `into`
@@ -13,6 +13,18 @@ pub record Gives (before now : List ℕ) (n : ℕ) (into : List ℕ) : Type 0 wh
   pub inside : n ≤ length before
   pub bytes : take n into ≡ take n before
   pub others : now ≡ drop n before
+
+-- a view gave a first part of its bytes, at most so many
+abbrev pub GivesPart : List ℕ → List ℕ → ℕ → Type 0
+GivesPart before now most = (n : ℕ) × (n ≤ most) × (now ≡ drop n before)
+
+-- a sink took all of a piece
+abbrev pub Wrote : List ℕ → List ℕ → List ℕ → Type 0
+Wrote before now piece = now ≡ before ++ piece
+
+-- it took a first part of it
+abbrev pub LeftOver : List ℕ → List ℕ → List ℕ → Type 0
+LeftOver before now piece = (part rest : List ℕ) × (now ≡ before ++ part) × (part ++ rest ≡ piece)
 
 -- the moment that a clock gives, where these are left
 abbrev pub first_moment : List Moment → Moment

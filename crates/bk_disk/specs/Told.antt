@@ -1,5 +1,7 @@
--- What a disk tells: its files as they read, and of each file what a stop may leave.
-use Rattle.std.specs.Prelude.{◌≡◌, ℕ, ◌+◌, ◌≤◌, Bool, true, false, not, cond, List, [], ◌∷◌, ◌++◌, length, take, drop, map, sum_by, unwrap_or, is_some, IsTrue, IsSome, IfSome, IsSomeAnd, nat_le, ◌&&◌}
+-- What a disk tells: its files as they read, and of each file what a crash may leave.
+use Rattle.std.specs.Prelude.{◌≡◌, ℕ, ◌+◌, ◌≤◌, Bool, true, false, not, cond, List, [], ◌∷◌, ◌++◌}
+use Rattle.std.specs.Prelude.{length, take, drop, map, sum_by, unwrap_or, is_some, IsTrue, IsSome}
+use Rattle.std.specs.Prelude.{IfSome, IsSomeAnd, nat_le, ◌&&◌}
 use Rattle.std.specs.declared.option.Option.{Option}
 use Rattle.std.specs.declared.option.Option.TheVariants.{None, Some}
 use Rattle.std.proofs.Common.{sym}
@@ -49,7 +51,7 @@ renamed from to (e ∷ es) = cond (same from e.0) ((to, e.1) ∷ es) (e ∷ rena
 abbrev pub Image : Type 0
 Image = Table (List ℕ)
 
--- how a stop sees a file
+-- how a crash sees a file
 pub record Front : Type 0 where
   -- its synced bytes
   pub synced : List ℕ
@@ -63,7 +65,7 @@ pub record Front : Type 0 where
 pub record Told : Type 0 where
   -- the files as they read
   pub image : Image
-  -- the fronts before each change that a stop can tell, in order
+  -- the fronts before each change that a crash can tell, in order
   pub past : List (Table Front)
   -- the fronts now
   pub fronts : Table Front
@@ -77,7 +79,7 @@ pub record IsWell (t : Told) : Type 0 where
   pub once : IsOnce (names t.image)
   pub paired : names t.fronts ≡ names t.image
 
--- the disk's clock: it counts the changes that a stop can tell
+-- the disk's clock: it counts the changes that a crash can tell
 abbrev pub clock : Told → ℕ
 clock t = length t.past
 

@@ -1,9 +1,12 @@
 //! A disk: a directory of named files that are appended to.
-ghost use Rattle.std.specs.Prelude.{◌≡◌, ◌≤◌, ◌⊎◌, Bool, true, false, List, [], ℕ, length, is_ok, is_err, IsTrue, IsOk, IfOk, OnOk, OnErr, IsErrOf};
+ghost use Rattle.std.specs.Prelude.{◌≡◌, ◌≤◌, ◌⊎◌, Bool, true, false, List, [], ℕ, length, is_ok};
+ghost use Rattle.std.specs.Prelude.{is_err, IsTrue, IsOk, IfOk, OnOk, OnErr, IsErrOf};
 ghost use Rattle.bk_disk.specs.Causes.{IsCaused, HasCause, bumped, most, has_failed};
 ghost use Rattle.bk_disk.specs.Names.{same};
-ghost use Rattle.bk_disk.specs.Told.{Told, listing, bytes_of, IsOurs, IsLent, IsAbsent, IsOneThere, CutsWithin, IsWithin, range_of, IsWell};
-ghost use Rattle.bk_disk.specs.Calls.{Appended, Synced, Made, Cut, Removed, Renamed, Returned, viewed};
+ghost use Rattle.bk_disk.specs.Told.{Told, listing, bytes_of, IsOurs, IsLent, IsAbsent, IsOneThere};
+ghost use Rattle.bk_disk.specs.Told.{CutsWithin, IsWithin, range_of, IsWell};
+ghost use Rattle.bk_disk.specs.Calls.{Appended, Synced, Made, Cut, Removed, Renamed, Returned};
+ghost use Rattle.bk_disk.specs.Calls.{viewed};
 
 use crate::errors::{DiskError, Failed};
 use crate::outs::Out;
@@ -17,11 +20,12 @@ pub struct Listed {
     pub len: u64,
 }
 
-/// A directory of files. A disk that tells its content tells it by one record, `told`: what it
-/// holds, what a stop may leave of it now and at each moment before, and what was asked of it.
-/// A moment is the time between two changes that a stop can tell.
+/// A directory of files. A disk that tells its content tells it by one record, `told`: what the
+/// files hold, what a crash may leave of them now and at each moment before, and what was asked of
+/// it. A moment is the time between two changes that a crash can tell.
 ///
-/// The disk keeps its allocator. `Memory` is out of memory, and what is told stays as it was.
+/// The disk keeps its allocator. `Memory` says that an allocation was refused: what is told and the
+/// count of faults are as before. `Failed` counts one fault, and each call says what it leaves.
 pub trait Disk {
     ghost use Rattle.bk_base.specs.declared.names.Name.{Name};
 
@@ -47,7 +51,7 @@ pub trait Disk {
     /// How many fallible files were lent.
     ghost fallible_outs: { Self → ℕ };
 
-    /// All files with their lengths, each once.
+    /// All files with their lengths, each once. After `Failed` all is as before.
     fn list(&mut self) -> Result<Vec<Listed>, DiskError>
         ensures files { IsTrue tells → IfOk result (λ files. files.items ≡ listing (told self.old).image) }
         ensures told { IsTrue tells → told self.new ≡ told self.old }
@@ -58,7 +62,8 @@ pub trait Disk {
         ensures outs { fallible_outs self.new ≡ fallible_outs self.old };
 
     /// A view of `len` bytes of a file from `at` on, as they are now. A range past the file's end,
-    /// or of a name that isn't there, is `Failed`.
+    /// or of a name that isn't there, is `Failed`, and told as a stray view. No `Failed` changes a
+    /// file.
     fn view(&mut self, name: Name, at: u64, len: u64) -> Result<Self::View, DiskError>
         ensures within { IsTrue tells → OnOk result (IsWithin name at len (told self.old).image) }
         ensures bytes { IsTrue tells → IfOk result (λ v. Self.View.left v
@@ -74,7 +79,7 @@ pub trait Disk {
         ensures no_view { OnErr result (fallible_views self.new ≡ fallible_views self.old) }
         ensures outs { fallible_outs self.new ≡ fallible_outs self.old };
 
-    /// Makes an empty file, where the name isn't there. After `Failed` it is made or not.
+    /// Makes an empty file, or leaves the empty one that is there. After `Failed` it is done or not.
     fn create(&mut self, name: Name) -> Result<(), DiskError>
         requires { IsTrue tells → bytes_of name (told self.old).image ≡ [] }
         ensures created { IsTrue tells → OnOk result (Made name false (told self.old) (told self.new)) }
@@ -114,7 +119,7 @@ pub trait Disk {
         ensures outs { fallible_outs self.new ≡ fallible_outs self.old };
 
     /// Cuts a file to a length between its synced length and its length. After `Failed` it is done
-    /// or not. Until the next sync a stop may undo it.
+    /// or not. Until the next sync a crash may undo it.
     fn cut(&mut self, name: Name, len: u64) -> Result<(), Failed>
         requires ours { IsTrue tells → IsOurs name (told self.old) }
         requires within { IsTrue tells → CutsWithin name len (told self.old) }
@@ -127,7 +132,7 @@ pub trait Disk {
         ensures views { fallible_views self.new ≡ fallible_views self.old }
         ensures outs { fallible_outs self.new ≡ fallible_outs self.old };
 
-    /// Syncs a file: a stop leaves all its bytes. A sync that fails changes nothing.
+    /// Syncs a file: a crash leaves all its bytes. After `Failed` all is as before.
     fn sync(&mut self, name: Name) -> Result<(), Failed>
         requires { IsTrue tells → IsOurs name (told self.old) }
         ensures synced { IsTrue tells → OnOk result (Synced name (told self.old) (told self.new)) }
@@ -139,7 +144,7 @@ pub trait Disk {
         ensures outs { fallible_outs self.new ≡ fallible_outs self.old };
 
     /// Makes a new file, to be written elsewhere and brought back by `adopt`. Until then it reads
-    /// as empty here, and a stop may leave any bytes of it. After `Failed` the name is lent or
+    /// as empty here, and a crash may leave any bytes of it. After `Failed` the name is lent or
     /// isn't there.
     fn lend(&mut self, name: Name) -> Result<Self::Out, DiskError>
         requires { IsTrue tells → IsAbsent name (told self.old).image }
@@ -171,7 +176,7 @@ pub trait Disk {
         ensures outs { fallible_outs self.new ≡ fallible_outs self.old };
 
     /// Gives a file another name, where exactly one of the two is there; where that is `to` already,
-    /// it changes nothing. After `Failed` it is done or not.
+    /// it changes no file. After `Failed` it is done or not; where not, no room falls.
     fn rename(&mut self, from: Name, to: Name) -> Result<(), DiskError>
         requires { IsTrue tells → IsOneThere from to (told self.old).image }
         ensures renamed { IsTrue tells → OnOk result (Renamed from to (told self.old) (told self.new)) }
@@ -190,7 +195,7 @@ pub trait Disk {
         ensures outs { fallible_outs self.new ≡ fallible_outs self.old };
 
     /// Removes a file, if it is there. A lent name that was removed is lent no more. After `Failed`
-    /// it is done or not.
+    /// it is done or not; where not, no room falls.
     fn remove(&mut self, name: Name) -> Result<(), DiskError>
         ensures removed { IsTrue tells → OnOk result (Removed name (told self.old) (told self.new)) }
         ensures err { IsTrue tells → OnErr result ((told self.new ≡ told self.old)

@@ -20,6 +20,6 @@ pub use clocks::Clock;
 pub use disks::{Disk, Listed};
 pub use errors::{DiskError, Failed};
 pub use outs::Out;
-pub use sinks::Sink;
+pub use sinks::{Sink, write_all};
 pub use sources::Source;
-pub use views::View;
+pub use views::{View, read_exact};

@@ -1,6 +1,7 @@
 //! Where bytes go.
-ghost use Rattle.std.specs.Prelude.{◌≡◌, ◌<◌, ◌≤◌, ◌++◌, Bool, List, ℕ, length, take, IsTrue, IfOk, OnErr};
+ghost use Rattle.std.specs.Prelude.{◌≡◌, ◌<◌, ◌≤◌, ◌++◌, Bool, List, ℕ, length, take, IsTrue, IfOk, OnOk, OnErr};
 ghost use Rattle.bk_disk.specs.Causes.{IsCaused};
+ghost use Rattle.bk_disk.specs.Streams.{Wrote, LeftOver};
 
 use crate::errors::Failed;
 
@@ -24,4 +25,19 @@ pub trait Sink {
             ≡ written self.old ++ take n piece.now) }
         ensures kept { IsTrue tells → OnErr result (written self.new ≡ written self.old) }
         ensures cause { IsCaused (faults self.old) (faults self.new) result };
+}
+
+/// Writes a whole piece. After `Failed` the sink has taken a first part of it.
+pub fn write_all<K: Sink>(sink: &mut K, piece: &[u8]) -> Result<(), Failed>
+    ensures wrote { IsTrue K.tells → OnOk result
+        (Wrote (K.written sink.old) (K.written sink.new) piece.now) }
+    ensures part { IsTrue K.tells → OnErr result
+        (LeftOver (K.written sink.old) (K.written sink.new) piece.now) }
+    ensures cause { IsCaused (K.faults sink.old) (K.faults sink.new) result }
+{
+    let mut at = 0;
+    while at < piece.len() {
+        at += sink.write(&piece[at..])?;
+    }
+    Ok(())
 }

@@ -1,7 +1,7 @@
 //! A range of a file, to be read.
-ghost use Rattle.std.specs.Prelude.{◌≡◌, ◌+◌, ◌<◌, ◌≤◌, Bool, false, List, ℕ, length, IsTrue, IsOk, IfOk, OnErr};
+ghost use Rattle.std.specs.Prelude.{◌≡◌, ◌+◌, ◌<◌, ◌≤◌, Bool, true, false, List, ℕ, length, take, drop, IsTrue, IsOk, IfOk, OnOk, OnErr};
 ghost use Rattle.bk_disk.specs.Causes.{IsCaused};
-ghost use Rattle.bk_disk.specs.Streams.{Gives};
+ghost use Rattle.bk_disk.specs.Streams.{Gives, GivesPart};
 
 use crate::errors::Failed;
 
@@ -39,4 +39,28 @@ pub trait View {
 
     /// A view that tells its bytes has as many left as it says.
     ghost told_rest: { (v : Self) → IsTrue tells → length (left v) ≡ rest v };
+}
+
+/// Fills a slice from a view that has at least so many bytes left. After `Failed` the view has given
+/// a first part of them, and what the slice holds isn't told.
+pub fn read_exact<V: View>(view: &mut V, into: &mut [u8]) -> Result<(), Failed>
+    requires { length into.old ≤ V.rest view.old }
+    ensures bytes { IsTrue V.tells → OnOk result
+        (into.new ≡ take (length into.old) (V.left view.old)) }
+    ensures left { IsTrue V.tells → OnOk result
+        (V.left view.new ≡ drop (length into.old) (V.left view.old)) }
+    ensures rest { OnOk result (V.rest view.old ≡ length into.old + V.rest view.new) }
+    ensures part { IsTrue V.tells → OnErr result
+        (GivesPart (V.left view.old) (V.left view.new) (length into.old)) }
+    ensures cause { IsCaused (V.faults view.old) (V.faults view.new) result }
+    ensures failed { OnErr result (V.fallible view.old ≡ true) }
+    ensures same_faults { V.fallible view.old ≡ false
+        → V.faults view.new ≡ V.faults view.old }
+    ensures fallible { V.fallible view.new ≡ V.fallible view.old }
+{
+    let mut at = 0;
+    while at < into.len() {
+        at += view.read(&mut into[at..])?;
+    }
+    Ok(())
 }

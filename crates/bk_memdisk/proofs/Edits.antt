@@ -1,5 +1,7 @@
 -- A file is edited in its place, and the journal says so by one entry.
-use Rattle.std.proofs.Common.{◌≡◌, ◌==◌, ℕ, ◌+◌, ◌-◌, ◌<◌, ◌≤◌, max, Bool, true, false, List, [], ◌∷◌, ◌++◌, length, take, set, get_or, sum_by, refl, sym, ◌∙◌, ap, arith, subst, inl, inr}
+use Rattle.std.proofs.Common.{◌≡◌, ◌==◌, ℕ, ◌+◌, ◌-◌, ◌<◌, ◌≤◌, max, Bool, true, false, List, []}
+use Rattle.std.proofs.Common.{◌∷◌, ◌++◌, length, take, set, get_or, sum_by, refl, sym, ◌∙◌, ap}
+use Rattle.std.proofs.Common.{arith, subst, inl, inr}
 use Rattle.std.specs.declared.option.Option.TheVariants.{Some}
 use Rattle.std.specs.Option.{option_map, IsSomeAnd, IfSome, unwrap_or}
 use Rattle.std.proofs.lemmas.Bool.{cases_Bool}
@@ -29,7 +31,8 @@ some_from (x ∷ xs) room is h e le = omega (arith, le)
 
 -- What the fronts and the image say of the file that stands first under a name
 
-module _ (name : Name) (files : List MemFile) (t : Table Kept) (i : ℕ) (x : MemFile) (tied : Tied files t) (first : IsFirst name files i) (is : x ≡ get_or files i x) where
+module _ (name : Name) (files : List MemFile) (t : Table Kept) (i : ℕ) (x : MemFile) (tied : Tied files t)
+    (first : IsFirst name files i) (is : x ≡ get_or files i x) where
   -- the journal's word on it
   pub known : (k : Kept) × (at t name ≡ Some k) × Fits x k
   known = let h = tied_first name files t i x tied first in (h.0, h.1, subst (λ y. Fits y h.0) (sym is) h.2)
@@ -85,10 +88,33 @@ module _ (files : List MemFile) (i : ℕ) (x : MemFile) (below : i < length file
       tied_set files t i x g tied below (same_name ∙ ap (λ (f : MemFile). f.name) is) (λ k h. fits k (subst (λ y. Fits y k) (sym is) h))
 
   pub set_image : (g : MemFile) → g.name ≡ x.name → g.bytes.items ≡ x.bytes.items → image_of (set files i g) ≡ image_of files
-  set_image g same_name bytes = unchanged (λ f. f.bytes.items) files i x g below (same_name ∙ ap (λ (f : MemFile). f.name) is) (bytes ∙ ap (λ (f : MemFile). f.bytes.items) is)
+  set_image g same_name bytes = unchanged (λ f. f.bytes.items) files i x g below (same_name
+      ∙ ap (λ (f : MemFile). f.name) is) (bytes ∙ ap (λ (f : MemFile). f.bytes.items) is)
 
-pub fits_named : (x g : MemFile) (to : Name) → g ≡ record { name = to; bytes = x.bytes; spare = x.spare; room = x.room; synced = x.synced; dirty = x.dirty; lent = x.lent; spare_is_empty = x.spare_is_empty; spare_has_room = x.spare_has_room; bytes_have_room = x.bytes_have_room } → (k : Kept) → Fits x k → Fits g k
-fits_named x g to e k h = subst (λ f. Fits f k) (sym e) (record { bytes = h.bytes; within = h.within; synced = h.synced; longest = h.longest; lent = h.lent; clean = h.clean; away = h.away })
+pub fits_named : (x g : MemFile) (to : Name) → g ≡ record {
+  name = to;
+  bytes = x.bytes;
+  spare = x.spare;
+  room =
+      x.room;
+  synced = x.synced;
+  dirty = x.dirty;
+  lent = x.lent;
+  spare_is_empty = x.spare_is_empty;
+  spare_has_room =
+      x.spare_has_room;
+  bytes_have_room = x.bytes_have_room;
+} → (k : Kept) → Fits x k → Fits g k
+fits_named x g to e k h = subst (λ f. Fits f k) (sym e) (record {
+  bytes = h.bytes;
+  within = h.within;
+  synced =
+      h.synced;
+  longest = h.longest;
+  lent = h.lent;
+  clean = h.clean;
+  away = h.away;
+})
 
 pub owed_from : (x g : MemFile) → g.room ≡ x.room → (g.dirty ≡ x.dirty) × (g.lent ≡ x.lent) → owed g ≡ owed x
 owed_from x g room others = rw (room, others.0, others.1) refl
@@ -100,28 +126,35 @@ owed_more x g others = rw (others.0, others.1) (grind arith)
 
 module _ (name : Name) (files : List MemFile) (cs ds : List Change) (i : ℕ) (x g : MemFile) (c : Change) (step : Kept → Kept)
     (tied : Tied files (after_all [] cs)) (first : IsFirst name files i) (is : x ≡ get_or files i x)
-    (more : ds ≡ cs ++ c ∷ []) (same_name : g.name ≡ x.name) (fits : (k : Kept) → Fits x k → Fits g (step k)) (change : after (after_all [] cs) c ≡ changed x.name step (after_all [] cs)) where
+    (more : ds ≡ cs ++ c ∷ []) (same_name : g.name ≡ x.name) (fits : (k : Kept) → Fits x k
+    → Fits g (step k)) (change : after (after_all [] cs) c ≡ changed x.name step (after_all [] cs)) where
   after_is : after (after_all [] cs) c ≡ changed name step (after_all [] cs)
   after_is = change ∙ ap (λ n. changed n step (after_all [] cs)) (name_is name files (after_all [] cs) i x tied first is)
 
   pub edited_tied : Tied (set files i g) (after_all [] ds)
   edited_tied =
       let edited : Tied (set files i g) (changed name step (after_all [] cs)) =
-      tied_changed name files (after_all [] cs) i x g step tied first (same_name ∙ ap (λ (f : MemFile). f.name) is) (λ k h. fits k (subst (λ y. Fits y k) (sym is) h))
+      tied_changed name files (after_all [] cs) i x g step tied first (same_name
+      ∙ ap (λ (f : MemFile). f.name) is) (λ k h. fits k (subst (λ y. Fits y k) (sym is) h))
       in subst (Tied (set files i g)) (sym (ap (after_all []) more ∙ after_all-append [] cs c ∙ after_is)) edited
 
   pub edited_told : (edit : List ℕ → List ℕ) (front_step : Front → Front) (asked : List Listed) (stray_views : ℕ)
       → g.bytes.items ≡ edit x.bytes.items → ((k : Kept) → Fits x k → (step k).front ≡ front_step k.front)
-      → Becomes (changed name edit) (changed name front_step) (told_of (image_of files) cs asked stray_views) (told_of (image_of (set files i g)) ds asked stray_views)
+      → Becomes (changed name edit) (changed name front_step) (told_of (image_of files) cs asked stray_views)
+      (told_of (image_of (set files i g)) ds asked stray_views)
   edited_told edit front_step asked stray_views bytes fronts =
       let there = known name files (after_all [] cs) i x tied first is in
       becomes (changed name edit) (changed name front_step) (image_of files) (image_of (set files i g)) cs ds c asked stray_views more
-      (changed-first (λ f. f.bytes.items) name files i x g edit first (same_name ∙ ap (λ (f : MemFile). f.name) is) (bytes ∙ ap (λ (f : MemFile). edit f.bytes.items) is))
-      (ap fronts_of after_is ∙ fronts-changed name step front_step (after_all [] cs) (λ k found. fronts k (let same_word : there.0 ≡ k = cc (there.1, found) in subst (λ y. Fits x y) same_word there.2)))
+      (changed-first (λ f. f.bytes.items) name files i x g edit first (same_name
+      ∙ ap (λ (f : MemFile). f.name) is) (bytes ∙ ap (λ (f : MemFile). edit f.bytes.items) is))
+      (ap fronts_of after_is ∙ fronts-changed name step front_step (after_all [] cs)
+      (λ k found. fronts k (let same_word : there.0 ≡ k = cc (there.1, found) in subst (λ y. Fits x y)
+      same_word there.2)))
 
 -- The rooms after an edit
 
-module _ (name : Name) (files : List MemFile) (i : ℕ) (x g : MemFile) (first : IsFirst name files i) (is : x ≡ get_or files i x) (same_name : g.name ≡ x.name) where
+module _ (name : Name) (files : List MemFile) (i : ℕ) (x g : MemFile) (first : IsFirst name files i)
+    (is : x ≡ get_or files i x) (same_name : g.name ≡ x.name) where
   pub other_rooms : (n : Name) → same n name ≡ false → unwrap_or (at (rooms_of (set files i g)) n) 0 ≡ unwrap_or (at (rooms_of files) n) 0
   other_rooms n other =
       ap (λ t. unwrap_or (at t n) 0) (changed-first (λ f. f.room) name files i x g (λ _. g.room) first (same_name ∙ ap (λ (f : MemFile). f.name) is) refl)
@@ -130,7 +163,8 @@ module _ (name : Name) (files : List MemFile) (i : ℕ) (x g : MemFile) (first :
   pub this_room : unwrap_or (at (rooms_of (set files i g)) name) 0 ≡ g.room
   this_room =
       ap (λ t. unwrap_or (at t name) 0) (changed-first (λ f. f.room) name files i x g (λ _. g.room) first (same_name ∙ ap (λ (f : MemFile). f.name) is) refl)
-      ∙ ap (λ o. unwrap_or o 0) (at-changed name (λ _. g.room) (rooms_of files) ∙ ap (option_map (λ (r : ℕ). g.room)) (at-first (λ f. f.room) name files i x first))
+      ∙ ap (λ o. unwrap_or o 0) (at-changed name (λ _. g.room) (rooms_of files)
+      ∙ ap (option_map (λ (r : ℕ). g.room)) (at-first (λ f. f.room) name files i x first))
 
   -- no room falls
   pub keeps_rooms : x.room ≤ g.room → (n : Name) → unwrap_or (at (rooms_of files) n) 0 ≤ unwrap_or (at (rooms_of (set files i g)) n) 0
@@ -159,7 +193,9 @@ changed_fixed n f (e ∷ es) h =
 pub set_same : (files : List MemFile) (i : ℕ) (x : MemFile) → x ≡ get_or files i x → set files i x ≡ files
 set_same files i x is = ap (set files i) is ∙ set-get_or files i x
 
-module _ (name : Name) (files : List MemFile) (cs : List Change) (i : ℕ) (x : MemFile) (tied : Tied files (after_all [] cs)) (first : IsFirst name files i) (is : x ≡ get_or files i x) (asked : List Listed) (stray_views : ℕ) where
+module _ (name : Name) (files : List MemFile) (cs : List Change) (i : ℕ) (x : MemFile)
+    (tied : Tied files (after_all [] cs)) (first : IsFirst name files i) (is : x ≡ get_or files i x)
+    (asked : List Listed) (stray_views : ℕ) where
   word_of : (front : Front) → at (fronts_of (after_all [] cs)) name ≡ Some front → (k : Kept) × (k.front ≡ front) × Fits x k
   word_of front found =
       let there = front_is name files (after_all [] cs) i x tied first is in
@@ -167,14 +203,19 @@ module _ (name : Name) (files : List MemFile) (cs : List Change) (i : ℕ) (x : 
       (there.0, word, there.2)
 
   -- no byte is appended
-  pub appended_nothing : (through : ℕ) → Becomes (changed name (λ b. b ++ take through [])) (changed name (pending_more (length (bytes_of name (image_of files) ++ take through [])) [])) (told_of (image_of files) cs asked stray_views) (told_of (image_of files) cs asked stray_views)
+  pub appended_nothing : (through : ℕ) → Becomes (changed name (λ b. b ++ take through []))
+      (changed name (pending_more (length (bytes_of name (image_of files) ++ take through [])) []))
+      (told_of (image_of files) cs asked stray_views) (told_of (image_of files) cs asked stray_views)
   appended_nothing through =
       let none : take {A = ℕ} through [] ≡ [] = take_all through [] (omega arith) in
       let kept_bytes : changed name (λ b. b ++ take through []) (image_of files) ≡ image_of files =
       changed_fixed name (λ b. b ++ take through []) (image_of files) (λ b found. ap (λ more. b ++ more) none ∙ append-nil b) in
       let same_len : length (bytes_of name (image_of files) ++ take through []) ≡ length x.bytes.items =
-      ap length (ap (λ more. bytes_of name (image_of files) ++ more) none ∙ append-nil (bytes_of name (image_of files)) ∙ bytes_is name files (after_all [] cs) i x tied first is) in
-      becomes_untold (changed name (λ b. b ++ take through [])) (changed name (pending_more (length (bytes_of name (image_of files) ++ take through [])) [])) (image_of files) (image_of files) cs asked stray_views
+      ap length (ap (λ more. bytes_of name (image_of files) ++ more) none
+      ∙ append-nil (bytes_of name (image_of files)) ∙ bytes_is name files (after_all [] cs) i x tied first is) in
+      becomes_untold (changed name (λ b. b ++ take through []))
+      (changed name (pending_more (length (bytes_of name (image_of files) ++ take through [])) []))
+      (image_of files) (image_of files) cs asked stray_views
       (sym kept_bytes)
       (sym (changed_fixed name (pending_more (length (bytes_of name (image_of files) ++ take through [])) []) (fronts_of (after_all [] cs))
       (λ front found.
@@ -185,7 +226,9 @@ module _ (name : Name) (files : List MemFile) (cs : List Change) (i : ℕ) (x : 
       ∙ ap (λ h. record { synced = front.synced; longest = front.longest; pending = h; lent = front.lent }) (append-nil front.pending))))
 
   -- a sync with nothing to do
-  pub synced_already : x.dirty ≡ false → Becomes (λ image. image) (changed name (all_synced (bytes_of name (image_of files)))) (told_of (image_of files) cs asked stray_views) (told_of (image_of files) cs asked stray_views)
+  pub synced_already : x.dirty ≡ false → Becomes (λ image. image)
+      (changed name (all_synced (bytes_of name (image_of files)))) (told_of (image_of files) cs asked stray_views)
+      (told_of (image_of files) cs asked stray_views)
   synced_already clean =
       becomes_untold (λ image. image) (changed name (all_synced (bytes_of name (image_of files)))) (image_of files) (image_of files) cs asked stray_views refl
       (sym (changed_fixed name (all_synced (bytes_of name (image_of files))) (fronts_of (after_all [] cs))
@@ -195,23 +238,39 @@ module _ (name : Name) (files : List MemFile) (cs : List Change) (i : ℕ) (x : 
       ap (λ b. all_synced b front) (bytes_is name files (after_all [] cs) i x tied first is) ∙ sym whole)))
 
   -- a cut
-  pub cut_told : (g : MemFile) (len : ℕ) → g.name ≡ x.name → g.bytes.items ≡ take len x.bytes.items → Becomes (changed name (λ b. take len b)) (λ fronts. fronts) (told_of (image_of files) cs asked stray_views) (told_of (image_of (set files i g)) cs asked stray_views)
+  pub cut_told : (g : MemFile) (len : ℕ) → g.name ≡ x.name → g.bytes.items ≡ take len x.bytes.items
+      → Becomes (changed name (λ b. take len b)) (λ fronts. fronts) (told_of (image_of files) cs asked stray_views)
+      (told_of (image_of (set files i g)) cs asked stray_views)
   cut_told g len same_name bytes =
       becomes_untold (changed name (λ b. take len b)) (λ fronts. fronts) (image_of files) (image_of (set files i g)) cs asked stray_views
-      (changed-first (λ f. f.bytes.items) name files i x g (λ b. take len b) first (same_name ∙ ap (λ (f : MemFile). f.name) is) (bytes ∙ ap (λ (f : MemFile). take len f.bytes.items) is))
+      (changed-first (λ f. f.bytes.items) name files i x g (λ b. take len b) first (same_name
+      ∙ ap (λ (f : MemFile). f.name) is) (bytes ∙ ap (λ (f : MemFile). take len f.bytes.items) is))
       refl
 
   module _ (g : MemFile) (c : Change) (ds : List Change) (more : ds ≡ cs ++ c ∷ []) (same_name : g.name ≡ x.name) where
-    pub appended_told : (through : ℕ) (piece : List ℕ) → ((k : Kept) → Fits x k → Fits g (handed (length x.bytes.items) through piece k)) → ((t : Table Kept) → after t c ≡ changed x.name (handed (length x.bytes.items) through piece) t) → g.bytes.items ≡ x.bytes.items ++ take through piece
-        → Becomes (changed name (λ b. b ++ take through piece)) (changed name (pending_more (length (bytes_of name (image_of files) ++ take through piece)) piece)) (told_of (image_of files) cs asked stray_views) (told_of (image_of (set files i g)) ds asked stray_views)
+    pub appended_told : (through : ℕ) (piece : List ℕ)
+        → ((k : Kept) → Fits x k → Fits g (handed (length x.bytes.items) through piece k))
+        → ((t : Table Kept) → after t c ≡ changed x.name (handed (length x.bytes.items) through piece) t)
+        → g.bytes.items ≡ x.bytes.items ++ take through piece
+        → Becomes (changed name (λ b. b ++ take through piece))
+        (changed name (pending_more (length (bytes_of name (image_of files) ++ take through piece)) piece))
+        (told_of (image_of files) cs asked stray_views) (told_of (image_of (set files i g)) ds asked stray_views)
     appended_told through piece fits change bytes =
-        edited_told name files cs ds i x g c (handed (length x.bytes.items) through piece) tied first is more same_name fits (change (after_all [] cs)) (λ b. b ++ take through piece) (pending_more (length (bytes_of name (image_of files) ++ take through piece)) piece) asked stray_views bytes
-        (λ k h. ap (λ b. pending_more (length (b ++ take through piece)) piece k.front) (sym h.bytes ∙ sym (bytes_is name files (after_all [] cs) i x tied first is)))
+        edited_told name files cs ds i x g c (handed (length x.bytes.items) through piece) tied first is more
+        same_name fits (change (after_all [] cs)) (λ b. b ++ take through piece)
+        (pending_more (length (bytes_of name (image_of files) ++ take through piece)) piece) asked stray_views bytes
+        (λ k h. ap (λ b. pending_more (length (b ++ take through piece)) piece k.front) (sym h.bytes
+        ∙ sym (bytes_is name files (after_all [] cs) i x tied first is)))
 
-    pub synced_told : ((k : Kept) → Fits x k → Fits g (synced (length x.bytes.items) k)) → ((t : Table Kept) → after t c ≡ changed x.name (synced (length x.bytes.items)) t) → g.bytes.items ≡ x.bytes.items
-        → Becomes (λ image. image) (changed name (all_synced (bytes_of name (image_of files)))) (told_of (image_of files) cs asked stray_views) (told_of (image_of (set files i g)) ds asked stray_views)
+    pub synced_told : ((k : Kept) → Fits x k → Fits g (synced (length x.bytes.items) k))
+        → ((t : Table Kept) → after t c ≡ changed x.name (synced (length x.bytes.items)) t)
+        → g.bytes.items ≡ x.bytes.items
+        → Becomes (λ image. image) (changed name (all_synced (bytes_of name (image_of files))))
+        (told_of (image_of files) cs asked stray_views) (told_of (image_of (set files i g)) ds asked stray_views)
     synced_told fits change bytes =
-        let whole = edited_told name files cs ds i x g c (synced (length x.bytes.items)) tied first is more same_name fits (change (after_all [] cs)) (λ b. b) (all_synced (bytes_of name (image_of files))) asked stray_views bytes
+        let whole = edited_told name files cs ds i x g c (synced (length x.bytes.items)) tied first is more
+        same_name fits (change (after_all [] cs)) (λ b. b) (all_synced (bytes_of name (image_of files))) asked
+        stray_views bytes
         (λ k h. ap (λ b. all_synced b k.front) (sym h.bytes ∙ sym (bytes_is name files (after_all [] cs) i x tied first is))) in
         record {
           passes = whole.passes;
@@ -221,7 +280,10 @@ module _ (name : Name) (files : List MemFile) (cs : List Change) (i : ℕ) (x : 
           stray_views = whole.stray_views;
         }
 
-    pub returned_told : (bytes : List ℕ) → ((k : Kept) → Fits x k → Fits g (returned bytes k)) → ((t : Table Kept) → after t c ≡ changed x.name (returned bytes) t) → g.bytes.items ≡ bytes
-        → Becomes (changed name (λ _. bytes)) (changed name (brought_back bytes)) (told_of (image_of files) cs asked stray_views) (told_of (image_of (set files i g)) ds asked stray_views)
+    pub returned_told : (bytes : List ℕ) → ((k : Kept) → Fits x k → Fits g (returned bytes k))
+        → ((t : Table Kept) → after t c ≡ changed x.name (returned bytes) t) → g.bytes.items ≡ bytes
+        → Becomes (changed name (λ _. bytes)) (changed name (brought_back bytes)) (told_of (image_of files) cs
+        asked stray_views) (told_of (image_of (set files i g)) ds asked stray_views)
     returned_told bytes fits change is_now =
-        edited_told name files cs ds i x g c (returned bytes) tied first is more same_name fits (change (after_all [] cs)) (λ _. bytes) (brought_back bytes) asked stray_views is_now (λ k h. refl)
+        edited_told name files cs ds i x g c (returned bytes) tied first is more same_name fits
+        (change (after_all [] cs)) (λ _. bytes) (brought_back bytes) asked stray_views is_now (λ k h. refl)

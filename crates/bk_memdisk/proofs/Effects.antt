@@ -10,16 +10,23 @@ effect_of-append : (call : ℕ) (cs : List (ℕ × ℕ)) (c : ℕ × ℕ) → ef
 effect_of-append call [] c = grind arith
 effect_of-append call (d ∷ ds) c = grind (arith, effect_of-append call ds c)
 
-effect_of-more : (call : ℕ) (cs : List Chosen) (i : ℕ) (d : Chosen) → i < length cs → effect_of call (pairs_of (take (i + 1) cs)) ≡ or_else (cond ((get_or cs i d).call == call) (Some (get_or cs i d).effect) None) (effect_of call (pairs_of (take i cs)))
+effect_of-more : (call : ℕ) (cs : List Chosen) (i : ℕ) (d : Chosen) → i < length cs
+    → effect_of call (pairs_of (take (i + 1) cs)) ≡ or_else (cond ((get_or cs i d).call == call)
+    (Some (get_or cs i d).effect) None) (effect_of call (pairs_of (take i cs)))
 effect_of-more call cs i d lt =
-    ap (λ xs. effect_of call (pairs_of xs)) (take_more cs i d lt) ∙ ap (effect_of call) (map-append (λ (x : Chosen). (x.call, x.effect)) (take i cs) (get_or cs i d ∷ [])) ∙ effect_of-append call (pairs_of (take i cs)) ((get_or cs i d).call, (get_or cs i d).effect)
+    ap (λ xs. effect_of call (pairs_of xs)) (take_more cs i d lt)
+    ∙ ap (effect_of call) (map-append (λ (x : Chosen). (x.call, x.effect)) (take i cs) (get_or cs i d ∷ []))
+    ∙ effect_of-append call (pairs_of (take i cs)) ((get_or cs i d).call, (get_or cs i d).effect)
 
 -- the next choice is of this call
-pub effect_of-this : (call : ℕ) (cs : List Chosen) (i : ℕ) (d : Chosen) → i < length cs → (get_or cs i d).call ≡ call → effect_of call (pairs_of (take (i + 1) cs)) ≡ Some (get_or cs i d).effect
+pub effect_of-this : (call : ℕ) (cs : List Chosen) (i : ℕ) (d : Chosen) → i < length cs
+    → (get_or cs i d).call ≡ call → effect_of call (pairs_of (take (i + 1) cs)) ≡ Some (get_or cs i d).effect
 effect_of-this call cs i d lt this = effect_of-more call cs i d lt ∙ grind (arith, this)
 
 -- the next choice is of another call
-pub effect_of-other : (call : ℕ) (cs : List Chosen) (i : ℕ) (d : Chosen) → i < length cs → ((get_or cs i d).call ≡ call → ⊥) → effect_of call (pairs_of (take (i + 1) cs)) ≡ effect_of call (pairs_of (take i cs))
+pub effect_of-other : (call : ℕ) (cs : List Chosen) (i : ℕ) (d : Chosen) → i < length cs
+    → ((get_or cs i d).call ≡ call → ⊥) → effect_of call (pairs_of (take (i + 1) cs)) ≡ effect_of call
+    (pairs_of (take i cs))
 effect_of-other call cs i d lt other = effect_of-more call cs i d lt ∙ grind (arith, other)
 
 pub pairs_split : (n : ℕ) (cs : List Chosen) → pairs_of (take n cs) ++ pairs_of (drop n cs) ≡ pairs_of cs

@@ -10,7 +10,8 @@ use Rattle.std.specs.Prelude.{Result, Ok, Err, OnOk, OnErr}
 use Rattle.bk_disk.specs.Well.{is_well}
 use Rattle.bk_memdisk.specs.Contents.{Contents, placed, Placed}
 
-pub still_either : {T E : Type 0} (r : Result T E) (P : Type 0) (old new : Contents) → OnOk r P → OnErr r (new ≡ old) → (P → IsTrue (is_well new.told)) → IsTrue (is_well old.told) → IsTrue (is_well new.told)
+pub still_either : {T E : Type 0} (r : Result T E) (P : Type 0) (old new : Contents) → OnOk r P
+    → OnErr r (new ≡ old) → (P → IsTrue (is_well new.told)) → IsTrue (is_well old.told) → IsTrue (is_well new.told)
 still_either (Ok x) P old new ok err f w = f ok
 still_either (Err e) P old new ok err f w = subst (λ (c : Contents). IsTrue (is_well c.told)) (sym err) w
 

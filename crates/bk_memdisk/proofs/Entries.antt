@@ -16,7 +16,8 @@ pub after_all-append : (t : Table Kept) (cs : List Change) (c : Change) → afte
 after_all-append t [] c = refl
 after_all-append t (d ∷ ds) c = after_all-append (after t d) ds c
 
-pub fronts_before-append : (t : Table Kept) (cs : List Change) (c : Change) → fronts_before t (cs ++ c ∷ []) ≡ fronts_before t cs ++ fronts_of (after_all t cs) ∷ []
+pub fronts_before-append : (t : Table Kept) (cs : List Change) (c : Change)
+    → fronts_before t (cs ++ c ∷ []) ≡ fronts_before t cs ++ fronts_of (after_all t cs) ∷ []
 fronts_before-append t [] c = refl
 fronts_before-append t (d ∷ ds) c = ap (λ past. fronts_of t ∷ past) (fronts_before-append (after t d) ds c)
 
@@ -31,8 +32,11 @@ told_of image cs asked stray_views = record {
 }
 
 -- one entry more
-pub becomes : (edit : Image → Image) (step : Table Front → Table Front) (old new : Image) (cs ds : List Change) (c : Change) (asked : List Listed) (stray_views : ℕ)
-    → ds ≡ cs ++ c ∷ [] → new ≡ edit old → fronts_of (after (after_all [] cs) c) ≡ step (fronts_of (after_all [] cs)) → Becomes edit step (told_of old cs asked stray_views) (told_of new ds asked stray_views)
+pub becomes : (edit : Image → Image) (step : Table Front
+    → Table Front) (old new : Image) (cs ds : List Change) (c : Change) (asked : List Listed) (stray_views : ℕ)
+    → ds ≡ cs ++ c ∷ [] → new ≡ edit old → fronts_of (after (after_all [] cs) c) ≡ step
+    (fronts_of (after_all [] cs)) → Becomes edit step (told_of old cs asked stray_views)
+    (told_of new ds asked stray_views)
 becomes edit step old new cs ds c asked stray_views more image fronts = record {
   passes = inr (ap (fronts_before []) more ∙ fronts_before-append [] cs c);
   image = image;
@@ -41,10 +45,18 @@ becomes edit step old new cs ds c asked stray_views more image fronts = record {
   stray_views = refl;
 }
 
--- no entry, since no stop can tell the change
+-- no entry, since no crash can tell the change
 pub becomes_untold : (edit : Image → Image) (step : Table Front → Table Front) (old new : Image) (cs : List Change) (asked : List Listed) (stray_views : ℕ)
-    → new ≡ edit old → fronts_of (after_all [] cs) ≡ step (fronts_of (after_all [] cs)) → Becomes edit step (told_of old cs asked stray_views) (told_of new cs asked stray_views)
-becomes_untold edit step old new cs asked stray_views image fronts = record { passes = inl (refl, refl); image = image; fronts = fronts; asked = refl; stray_views = refl }
+    → new ≡ edit old → fronts_of (after_all [] cs) ≡ step (fronts_of (after_all [] cs))
+    → Becomes edit step (told_of old cs asked stray_views) (told_of new cs asked stray_views)
+becomes_untold edit step old new cs asked stray_views image fronts = record {
+  passes = inl (refl, refl);
+  image =
+      image;
+  fronts = fronts;
+  asked = refl;
+  stray_views = refl;
+}
 
 -- The fronts after an edit
 
@@ -60,7 +72,9 @@ pub is_some-fronts_of : (n : Name) (t : Table Kept) → is_some (at (fronts_of t
 is_some-fronts_of n [] = refl
 is_some-fronts_of n (e ∷ es) = grind (arith, is_some-fronts_of n es)
 
-pub fronts-changed : (n : Name) (g : Kept → Kept) (step : Front → Front) (t : Table Kept) → ((k : Kept) → at t n ≡ Some k → (g k).front ≡ step k.front) → fronts_of (changed n g t) ≡ changed n step (fronts_of t)
+pub fronts-changed : (n : Name) (g : Kept → Kept) (step : Front → Front) (t : Table Kept)
+    → ((k : Kept) → at t n ≡ Some k → (g k).front ≡ step k.front)
+    → fronts_of (changed n g t) ≡ changed n step (fronts_of t)
 fronts-changed n g step [] h = refl
 fronts-changed n g step (e ∷ es) h =
     elim (cases_Bool (same n e.0)) [

@@ -1,5 +1,7 @@
 -- A file is made, put there, renamed or removed.
-use Rattle.std.proofs.Common.{◌≡◌, ◌⊎◌, ℕ, ◌+◌, ◌-◌, ◌<◌, ◌≤◌, Bool, true, false, cond, List, [], ◌∷◌, ◌++◌, length, map, set, get_or, sum_by, refl, sym, ◌∙◌, ap, arith, subst, inl, inr}
+use Rattle.std.proofs.Common.{◌≡◌, ◌⊎◌, ℕ, ◌+◌, ◌-◌, ◌<◌, ◌≤◌, Bool, true, false, cond, List, []}
+use Rattle.std.proofs.Common.{◌∷◌, ◌++◌, length, map, set, get_or, sum_by, refl, sym, ◌∙◌, ap}
+use Rattle.std.proofs.Common.{arith, subst, inl, inr}
 use Rattle.std.specs.Prelude.{Vec, IfOk, Result, Ok, Err}
 use Rattle.std.specs.declared.alloc.Global.{Global}
 use Rattle.std.specs.List.{position, remove}
@@ -18,9 +20,13 @@ use Rattle.bk_memdisk.specs.declared.files.MemFile.{MemFile}
 use Rattle.bk_memdisk.specs.Contents.{placed}
 use Rattle.bk_memdisk.specs.Journal.{Kept, after, after_all, fronts_of}
 use Rattle.bk_memdisk.specs.Fits.{IsFirst, Fits, Tied, image_of, rooms_of, owed}
-use Rattle.bk_memdisk.proofs.Entries.{after_all-append, told_of, becomes, becomes_untold, is_some-fronts_of, fronts-with_name, fronts-placed, fronts-without, fronts-renamed}
+use Rattle.bk_memdisk.proofs.Entries.{after_all-append, told_of, becomes, becomes_untold}
+use Rattle.bk_memdisk.proofs.Entries.{is_some-fronts_of, fronts-with_name, fronts-placed}
+use Rattle.bk_memdisk.proofs.Entries.{fronts-without, fronts-renamed}
 use Rattle.bk_memdisk.proofs.Edits
-use Rattle.bk_memdisk.proofs.Places.{at-first, found, at-not_found, renamed-first, without-first, tied_names, tied_append, tied_renamed, tied_without, table_of-append}
+use Rattle.bk_memdisk.proofs.Places.{at-first, found, at-not_found, renamed-first, without-first}
+use Rattle.bk_memdisk.proofs.Places.{tied_names, tied_append, tied_renamed, tied_without}
+use Rattle.bk_memdisk.proofs.Places.{table_of-append}
 
 without-absent : {X : Type 0} (n : Name) (t : Table X) → is_some (at t n) ≡ false → without n t ≡ t
 without-absent n [] h = refl
@@ -51,7 +57,9 @@ pub listing_of : (files : List MemFile) → listing (image_of files) ≡ map (λ
 listing_of [] = refl
 listing_of (f ∷ fs) = ap (λ t. record { name = f.name; len = length f.bytes.items } ∷ t) (listing_of fs)
 
-pub listed_all : {E : Type 0} (files : List MemFile) (r : Result (Vec Listed Global) E) → IfOk r (λ l. l.items ≡ map (λ (f : MemFile). record { name = f.name; len = length f.bytes.items }) files) → IfOk r (λ l. l.items ≡ listing (image_of files))
+pub listed_all : {E : Type 0} (files : List MemFile) (r : Result (Vec Listed Global) E)
+    → IfOk r (λ l. l.items ≡ map (λ (f : MemFile). record { name = f.name; len = length f.bytes.items }) files)
+    → IfOk r (λ l. l.items ≡ listing (image_of files))
 listed_all files (Ok l) h = h ∙ sym (listing_of files)
 listed_all files (Err e) h = tt
 
@@ -60,45 +68,64 @@ one_at_most lent = grind arith
 
 module _ (files : List MemFile) (cs : List Change) (tied : Tied files (after_all [] cs)) (asked : List Listed) (stray_views : ℕ) where
   -- the name is there already
-  pub made_already : (n : Name) (lent : Bool) → is_some (at (image_of files) n) ≡ true → Becomes (with_name n []) (with_name n (fresh lent)) (told_of (image_of files) cs asked stray_views) (told_of (image_of files) cs asked stray_views)
+  pub made_already : (n : Name) (lent : Bool) → is_some (at (image_of files) n) ≡ true
+      → Becomes (with_name n []) (with_name n (fresh lent)) (told_of (image_of files) cs asked stray_views)
+      (told_of (image_of files) cs asked stray_views)
   made_already n lent there =
       becomes_untold (with_name n []) (with_name n (fresh lent)) (image_of files) (image_of files) cs asked stray_views
       (rw there refl) (rw (front_there n files (after_all [] cs) tied ∙ there) refl)
 
   -- the name isn't there
-  pub removed_already : (n : Name) → is_some (at (image_of files) n) ≡ false → Becomes (without n) (without n) (told_of (image_of files) cs asked stray_views) (told_of (image_of files) cs asked stray_views)
+  pub removed_already : (n : Name) → is_some (at (image_of files) n) ≡ false
+      → Becomes (without n) (without n) (told_of (image_of files) cs asked stray_views) (told_of (image_of files)
+      cs asked stray_views)
   removed_already n absent =
       becomes_untold (without n) (without n) (image_of files) (image_of files) cs asked stray_views
-      (sym (without-absent n (image_of files) absent)) (sym (without-absent n (fronts_of (after_all [] cs)) (front_there n files (after_all [] cs) tied ∙ absent)))
+      (sym (without-absent n (image_of files) absent)) (sym (without-absent n (fronts_of (after_all [] cs))
+      (front_there n files (after_all [] cs) tied ∙ absent)))
 
-  pub renamed_already : (from to : Name) → is_some (at (image_of files) from) ≡ false → Becomes (renamed from to) (renamed from to) (told_of (image_of files) cs asked stray_views) (told_of (image_of files) cs asked stray_views)
+  pub renamed_already : (from to : Name) → is_some (at (image_of files) from) ≡ false
+      → Becomes (renamed from to) (renamed from to) (told_of (image_of files) cs asked stray_views)
+      (told_of (image_of files) cs asked stray_views)
   renamed_already from to absent =
       becomes_untold (renamed from to) (renamed from to) (image_of files) (image_of files) cs asked stray_views
-      (sym (renamed-absent from to (image_of files) absent)) (sym (renamed-absent from to (fronts_of (after_all [] cs)) (front_there from files (after_all [] cs) tied ∙ absent)))
+      (sym (renamed-absent from to (image_of files) absent))
+      (sym (renamed-absent from to (fronts_of (after_all [] cs)) (front_there from files (after_all [] cs) tied
+      ∙ absent)))
 
 -- a new file stands at the end
 module _ (name : Name) (files : List MemFile) (cs ds : List Change) (f : MemFile) (k : Kept) (c : Change)
-    (tied : Tied files (after_all [] cs)) (absent : is_some (at (image_of files) name) ≡ false) (more : ds ≡ cs ++ c ∷ []) (is : f.name ≡ name) (fits : Fits f k) where
+    (tied : Tied files (after_all [] cs)) (absent : is_some (at (image_of files) name) ≡ false)
+    (more : ds ≡ cs ++ c ∷ []) (is : f.name ≡ name) (fits : Fits f k) where
   no_word : is_some (at (after_all [] cs) name) ≡ false
   no_word = tied_there name files (after_all [] cs) tied ∙ absent
 
-  pub added_tied : (after (after_all [] cs) c ≡ with_name name k (after_all [] cs)) ⊎ (after (after_all [] cs) c ≡ placed name k (after_all [] cs)) → Tied (files ++ f ∷ []) (after_all [] ds)
+  pub added_tied : (after (after_all [] cs) c ≡ with_name name k (after_all [] cs)) ⊎ (after (after_all [] cs) c ≡
+      placed name k (after_all [] cs)) → Tied (files ++ f ∷ []) (after_all [] ds)
   added_tied change =
-      let grown : after (after_all [] cs) c ≡ after_all [] cs ++ (f.name, k) ∷ [] = elim change [ inl h ↦ h ∙ rw (no_word, is) refl | inr h ↦ h ∙ rw (no_word, is) refl ] in
+      let grown : after (after_all [] cs) c ≡ after_all [] cs ++ (f.name, k) ∷ [] = elim change [
+        | inl h ↦ h
+            ∙ rw (no_word, is) refl
+        | inr h ↦ h ∙ rw (no_word, is) refl
+      ] in
       subst (Tied (files ++ f ∷ [])) (sym (ap (after_all []) more ∙ after_all-append [] cs c ∙ grown)) (tied_append files (after_all [] cs) f k tied fits)
 
   grown_image : image_of (files ++ f ∷ []) ≡ image_of files ++ (name, f.bytes.items) ∷ []
   grown_image = table_of-append (λ f. f.bytes.items) files f ∙ ap (λ n. image_of files ++ (n, f.bytes.items) ∷ []) is
 
-  pub made_told : (asked : List Listed) (stray_views : ℕ) (lent : Bool) → after (after_all [] cs) c ≡ with_name name k (after_all [] cs) → f.bytes.items ≡ [] → k.front ≡ fresh lent
-      → Becomes (with_name name []) (with_name name (fresh lent)) (told_of (image_of files) cs asked stray_views) (told_of (image_of (files ++ f ∷ [])) ds asked stray_views)
+  pub made_told : (asked : List Listed) (stray_views : ℕ) (lent : Bool)
+      → after (after_all [] cs) c ≡ with_name name k (after_all [] cs) → f.bytes.items ≡ [] → k.front ≡ fresh lent
+      → Becomes (with_name name []) (with_name name (fresh lent)) (told_of (image_of files) cs asked stray_views)
+      (told_of (image_of (files ++ f ∷ [])) ds asked stray_views)
   made_told asked stray_views lent change empty front =
       becomes (with_name name []) (with_name name (fresh lent)) (image_of files) (image_of (files ++ f ∷ [])) cs ds c asked stray_views more
       (grown_image ∙ rw (absent, empty) refl)
       (ap fronts_of change ∙ fronts-with_name name k (after_all [] cs) ∙ ap (λ x. with_name name x (fronts_of (after_all [] cs))) front)
 
-  pub put_told : (asked : List Listed) (stray_views : ℕ) (bytes : List ℕ) (front : Front) → after (after_all [] cs) c ≡ placed name k (after_all [] cs) → f.bytes.items ≡ bytes → k.front ≡ front
-      → Becomes (placed name bytes) (placed name front) (told_of (image_of files) cs asked stray_views) (told_of (image_of (files ++ f ∷ [])) ds asked stray_views)
+  pub put_told : (asked : List Listed) (stray_views : ℕ) (bytes : List ℕ) (front : Front)
+      → after (after_all [] cs) c ≡ placed name k (after_all [] cs) → f.bytes.items ≡ bytes → k.front ≡ front
+      → Becomes (placed name bytes) (placed name front) (told_of (image_of files) cs asked stray_views)
+      (told_of (image_of (files ++ f ∷ [])) ds asked stray_views)
   put_told asked stray_views bytes front change same_bytes same_front =
       becomes (placed name bytes) (placed name front) (image_of files) (image_of (files ++ f ∷ [])) cs ds c asked stray_views more
       (grown_image ∙ rw (absent, same_bytes) refl)
@@ -122,24 +149,31 @@ module _ (from to : Name) (files : List MemFile) (cs ds : List Change) (i : ℕ)
       subst (Tied (set files i g)) (sym (ap (after_all []) more ∙ after_all-append [] cs c ∙ change))
       (tied_renamed from to files (after_all [] cs) i x g tied first is (λ k h. fits k (subst (λ y. Fits y k) (sym same_file) h)))
 
-  pub moved_told : (asked : List Listed) (stray_views : ℕ) → g.bytes.items ≡ x.bytes.items → Becomes (renamed from to) (renamed from to) (told_of (image_of files) cs asked stray_views) (told_of (image_of (set files i g)) ds asked stray_views)
+  pub moved_told : (asked : List Listed) (stray_views : ℕ) → g.bytes.items ≡ x.bytes.items
+      → Becomes (renamed from to) (renamed from to) (told_of (image_of files) cs asked stray_views)
+      (told_of (image_of (set files i g)) ds asked stray_views)
   moved_told asked stray_views bytes =
       becomes (renamed from to) (renamed from to) (image_of files) (image_of (set files i g)) cs ds c asked stray_views more
       (renamed-first (λ f. f.bytes.items) from to files i x g first is (bytes ∙ ap (λ (f : MemFile). f.bytes.items) same_file))
       (ap fronts_of change ∙ fronts-renamed from to (after_all [] cs))
 
-  pub moved_rooms : g.room ≡ x.room → (n : Name) → same n from ≡ false → same n to ≡ false → unwrap_or (at (rooms_of (set files i g)) n) 0 ≡ unwrap_or (at (rooms_of files) n) 0
+  pub moved_rooms : g.room ≡ x.room → (n : Name) → same n from ≡ false → same n to ≡ false
+      → unwrap_or (at (rooms_of (set files i g)) n) 0 ≡ unwrap_or (at (rooms_of files) n) 0
   moved_rooms room n one other =
       ap (λ t. unwrap_or (at t n) 0) (renamed-first (λ f. f.room) from to files i x g first is (room ∙ ap (λ (f : MemFile). f.room) same_file))
       ∙ ap (λ o. unwrap_or o 0) (at-renamed_other from to n (rooms_of files) one other)
 
 -- the file is gone
 module _ (name : Name) (files : List MemFile) (cs ds : List Change) (i : ℕ) (c : Change)
-    (tied : Tied files (after_all [] cs)) (first : IsFirst name files i) (more : ds ≡ cs ++ c ∷ []) (change : after (after_all [] cs) c ≡ without name (after_all [] cs)) where
+    (tied : Tied files (after_all [] cs)) (first : IsFirst name files i) (more : ds ≡ cs ++ c ∷ [])
+    (change : after (after_all [] cs) c ≡ without name (after_all [] cs)) where
   pub gone_tied : Tied (remove files i) (after_all [] ds)
-  gone_tied = subst (Tied (remove files i)) (sym (ap (after_all []) more ∙ after_all-append [] cs c ∙ change)) (tied_without name files (after_all [] cs) i tied first)
+  gone_tied = subst (Tied (remove files i)) (sym (ap (after_all []) more ∙ after_all-append [] cs c ∙ change))
+      (tied_without name files (after_all [] cs) i tied first)
 
-  pub gone_told : (asked : List Listed) (stray_views : ℕ) → Becomes (without name) (without name) (told_of (image_of files) cs asked stray_views) (told_of (image_of (remove files i)) ds asked stray_views)
+  pub gone_told : (asked : List Listed) (stray_views : ℕ)
+      → Becomes (without name) (without name) (told_of (image_of files) cs asked stray_views)
+      (told_of (image_of (remove files i)) ds asked stray_views)
   gone_told asked stray_views =
       becomes (without name) (without name) (image_of files) (image_of (remove files i)) cs ds c asked stray_views more
       (without-first (λ f. f.bytes.items) name files i first) (ap fronts_of change ∙ fronts-without name (after_all [] cs))
@@ -150,7 +184,8 @@ module _ (name : Name) (files : List MemFile) (cs ds : List Change) (i : ℕ) (c
 
 -- The entries of the journal that are reserved
 
-pub owed_removed : (files : List MemFile) (i : ℕ) (x : MemFile) (reserved : ℕ) → i < length files → x ≡ get_or files i x → reserved ≡ sum_by owed files → reserved - owed x ≡ sum_by owed (remove files i)
+pub owed_removed : (files : List MemFile) (i : ℕ) (x : MemFile) (reserved : ℕ) → i < length files
+    → x ≡ get_or files i x → reserved ≡ sum_by owed files → reserved - owed x ≡ sum_by owed (remove files i)
 owed_removed files i x reserved below is all =
     let sums : sum_by owed (remove files i) + owed (get_or files i x) ≡ sum_by owed files = sum_by-remove owed files i x below in
     let this : owed (get_or files i x) ≡ owed x = ap owed (sym is) in
@@ -161,7 +196,9 @@ owed_added files f reserved all = omega (arith, all, sum_by-append owed files (f
 
 -- A file is put in the place of another
 module _ (name : Name) (files : List MemFile) (cs ds : List Change) (i : ℕ) (x g : MemFile) (c : Change) (k : Kept)
-    (tied : Tied files (after_all [] cs)) (first : IsFirst name files i) (is : x ≡ get_or files i x) (more : ds ≡ cs ++ c ∷ []) (named : g.name ≡ name) (fits : Fits g k) (change : after (after_all [] cs) c ≡ placed name k (after_all [] cs)) where
+    (tied : Tied files (after_all [] cs)) (first : IsFirst name files i) (is : x ≡ get_or files i x)
+    (more : ds ≡ cs ++ c ∷ []) (named : g.name ≡ name) (fits : Fits g k) (change : after (after_all [] cs) c ≡
+    placed name k (after_all [] cs)) where
   here : is_some (at (image_of files) name) ≡ true
   here = is_there name files i first
 
@@ -177,9 +214,11 @@ module _ (name : Name) (files : List MemFile) (cs ds : List Change) (i : ℕ) (x
   replaced_tied = Edits.edited_tied name files cs ds i x g c (λ _. k) tied first is more same_name (λ j h. fits) changed_word
 
   pub replaced_told : (asked : List Listed) (stray_views : ℕ) (bytes : List ℕ) (front : Front) → g.bytes.items ≡ bytes → k.front ≡ front
-      → Becomes (placed name bytes) (placed name front) (told_of (image_of files) cs asked stray_views) (told_of (image_of (set files i g)) ds asked stray_views)
+      → Becomes (placed name bytes) (placed name front) (told_of (image_of files) cs asked stray_views)
+      (told_of (image_of (set files i g)) ds asked stray_views)
   replaced_told asked stray_views bytes front same_bytes same_front =
-      let edit = Edits.edited_told name files cs ds i x g c (λ _. k) tied first is more same_name (λ j h. fits) changed_word (λ _. bytes) (λ _. front) asked stray_views same_bytes (λ j h. same_front) in
+      let edit = Edits.edited_told name files cs ds i x g c (λ _. k) tied first is more same_name (λ j h. fits)
+      changed_word (λ _. bytes) (λ _. front) asked stray_views same_bytes (λ j h. same_front) in
       record {
         passes = edit.passes;
         image = edit.image ∙ rw here refl;

@@ -1,4 +1,4 @@
--- What a stop leaves of a disk in memory, by a choice.
+-- What a crash leaves of a disk in memory, by a choice.
 use Rattle.std.specs.Prelude.{ℕ, ◌+◌, ◌==◌, cond, List, [], ◌∷◌, ◌++◌, length, take, drop, bit_xor}
 use Rattle.std.specs.List.{list_any}
 use Rattle.std.specs.declared.option.Option.{Option}

@@ -1,4 +1,4 @@
--- What the journal of a disk in memory says of each file: its bytes, and what a stop may leave of it.
+-- What the journal of a disk in memory says of each file: its bytes, and what a crash may leave of it.
 use Rattle.std.specs.Prelude.{ℕ, Bool, List, [], ◌∷◌, ◌++◌, length, take, map}
 use Rattle.bk_disk.specs.Told.{Table, Front, changed, with_name, without, renamed}
 use Rattle.bk_disk.specs.Stops.{front_of}

@@ -2,7 +2,7 @@
 
 use bk_base::Name;
 
-// A change that a stop can tell. What a stop may leave at each moment is a function of these: so an
+// A change that a crash can tell. What a crash may leave at each moment is a function of these: so an
 // append keeps its place in the file and its bytes, and a sync its length.
 #[derive(Drop)]
 pub(crate) enum Change {

@@ -1,11 +1,11 @@
-//! What a stop leaves of the bytes that weren't synced.
+//! What a crash leaves of the bytes that weren't synced.
 ghost use Rattle.std.specs.Prelude.{◌≡◌, ◌≤◌, length, IfOk, OnOk};
-ghost use Rattle.bk_disk.specs.Stops.{AreOctets};
+ghost use Rattle.bk_base.specs.Bounds.{AreBytes};
 ghost use Rattle.bk_memdisk.specs.Crash.{left_of, kept_part, flipped};
 
 use std::alloc::{AllocError, Global};
 
-/// What a stop leaves of a file's unsynced part: its first `keep` bytes, all for None, and of
+/// What a crash leaves of a file's unsynced part: its first `keep` bytes, all for None, and of
 /// these the bytes at the offsets of `flips`, counted from the part's start, with their lowest bit
 /// changed.
 #[derive(Debug, Drop)]
@@ -22,7 +22,7 @@ pub(crate) fn left(
     choice: &Choice,
 ) -> Result<Vec<u8>, AllocError>
     requires { synced ≤ length bytes.now }
-    ensures octets { IfOk result (λ left. AreOctets left.items) }
+    ensures are_bytes { IfOk result (λ left. AreBytes left.items) }
     ensures left { IfOk result (λ left. left.items ≡ left_of choice.now.keep choice.now.flips.items synced
         bytes.now) }
 {

@@ -1,12 +1,17 @@
 //! The files of a disk in memory, with the journal of their changes.
-ghost use Rattle.std.specs.Prelude.{◌≡◌, ◌+◌, ◌<◌, ◌≤◌, ◌⊎◌, Bool, false, true, not, List, [], ℕ, length, take, drop, map, position, IsTrue, IsOk, IfOk, OnOk, OnErr, is_ok, is_some, IsSome, option_copied, IfSome, IsErrOf, ◌↔◌};
+ghost use Rattle.std.specs.Prelude.{◌≡◌, ◌+◌, ◌<◌, ◌≤◌, ◌⊎◌, Bool, false, true, not, List, [], ℕ};
+ghost use Rattle.std.specs.Prelude.{length, take, drop, map, position, IsTrue, IsOk, IfOk, OnOk};
+ghost use Rattle.std.specs.Prelude.{OnErr, is_ok, is_some, IsSome, option_copied, IfSome, IsErrOf};
+ghost use Rattle.std.specs.Prelude.{◌↔◌};
 ghost use Rattle.bk_disk.specs.Names.{same};
-ghost use Rattle.bk_disk.specs.Told.{nothing_told, names, IsOnce, at, bytes_of, listing, IsOurs, IsLent, IsOneThere, is_within, range_of, CutsWithin, IsWithin};
+ghost use Rattle.bk_disk.specs.Told.{nothing_told, names, IsOnce, at, bytes_of, listing, IsOurs};
+ghost use Rattle.bk_disk.specs.Told.{IsLent, IsOneThere, is_within, range_of, CutsWithin, IsWithin};
 ghost use Rattle.bk_disk.specs.Stops.{MayLeave, IsSynced};
 ghost use Rattle.bk_memdisk.specs.Crash.{crashed};
 ghost use Rattle.bk_memdisk.specs.Contents.{room_of, KeepsRooms, Placed};
 ghost use Rattle.bk_memdisk.specs.Fits.{IsFirst, image_of};
-ghost use Rattle.bk_disk.specs.Calls.{Appended, Synced, Made, Cut, Removed, Renamed, Returned, viewed};
+ghost use Rattle.bk_disk.specs.Calls.{Appended, Synced, Made, Cut, Removed, Renamed, Returned};
+ghost use Rattle.bk_disk.specs.Calls.{viewed};
 
 use crate::changes::Change;
 use crate::choices::{Choice, left};
@@ -69,7 +74,7 @@ impl Directory {
         list_of(self.alloc, &self.files)
     }
 
-    // What a stop leaves by the choice, synced whole and with no name lent.
+    // What a crash leaves by the choice, synced whole and with no name lent.
     pub(crate) fn crash(&self, choice: &Choice) -> Result<Directory, AllocError>
         requires { IsOnce (names self.now.told.image) }
         ensures image { IfOk result (λ after. after.told.image

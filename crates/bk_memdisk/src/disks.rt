@@ -1,5 +1,7 @@
 //! A disk in memory.
-ghost use Rattle.std.specs.Prelude.{◌≡◌, ◌≤◌, ◌⊎◌, ◌↔◌, ℕ, min, true, false, IsTrue, IsSome, IfSome, is_some, is_ok, is_err, IsOk, IsErr, IsErrOf, [], length, IfOk, OnOk, OnErr, option_copied};
+ghost use Rattle.std.specs.Prelude.{◌≡◌, ◌≤◌, ◌⊎◌, ◌↔◌, ℕ, min, true, false, IsTrue, IsSome};
+ghost use Rattle.std.specs.Prelude.{IfSome, is_some, is_ok, is_err, IsOk, IsErr, IsErrOf, []};
+ghost use Rattle.std.specs.Prelude.{length, IfOk, OnOk, OnErr, option_copied};
 ghost use Rattle.bk_disk.specs.Causes.{Rose, bumped, most};
 ghost use Rattle.bk_disk.specs.Well.{is_well};
 
@@ -34,7 +36,8 @@ impl MemDisk {
     ghost use Rattle.bk_disk.specs.Names.{same};
     ghost use Rattle.bk_memdisk.specs.Crash.{crashed};
     ghost use Rattle.bk_memdisk.specs.Plans.{nothing_chosen, chosen, fused};
-    ghost use Rattle.bk_memdisk.specs.Disk.{told_by, calls_of, views_of, faults_of, fallible_views_of, SameCounts};
+    ghost use Rattle.bk_memdisk.specs.Disk.{told_by, calls_of, views_of, faults_of};
+    ghost use Rattle.bk_memdisk.specs.Disk.{fallible_views_of, SameCounts};
 
     /// An empty disk. Nothing is set to fail.
     pub fn new(alloc: Global) -> MemDisk
@@ -75,7 +78,7 @@ impl MemDisk {
         }
     }
 
-    /// The disk that a stop leaves by this choice: of each file its synced bytes, and of the bytes
+    /// The disk that a crash leaves by this choice: of each file its synced bytes, and of the bytes
     /// past them what the choice says. All of it is synced, no name is lent, nothing is set to fail.
     pub fn crash(self, choice: &Choice) -> Result<MemDisk, Memory>
         ensures image { IfOk result (λ after. (told_by after).image
@@ -154,11 +157,14 @@ impl Disk for MemDisk {
     ghost use Rattle.std.specs.Prelude.{refl};
     ghost use Rattle.bk_base.specs.declared.names.Name.{Name};
     ghost use Rattle.bk_memdisk.specs.Contents.{room_of, KeepsRooms};
-    ghost use Rattle.bk_memdisk.specs.Disk.{told_by, calls_of, views_of, faults_of, SamePlans, Answers, Fails};
+    ghost use Rattle.bk_memdisk.specs.Disk.{told_by, calls_of, views_of, faults_of, SamePlans};
+    ghost use Rattle.bk_memdisk.specs.Disk.{Answers, Fails};
     ghost use Rattle.bk_memdisk.specs.Plans.{next_effect, one_later};
     ghost use Rattle.bk_disk.specs.Names.{same};
-    ghost use Rattle.bk_disk.specs.Told.{bytes_of, listing, range_of, IsWithin, IsOurs, IsLent, IsAbsent, IsOneThere, CutsWithin};
-    ghost use Rattle.bk_disk.specs.Calls.{Made, Appended, Cut, Synced, Removed, Renamed, Returned, viewed};
+    ghost use Rattle.bk_disk.specs.Told.{bytes_of, listing, range_of, IsWithin, IsOurs, IsLent};
+    ghost use Rattle.bk_disk.specs.Told.{IsAbsent, IsOneThere, CutsWithin};
+    ghost use Rattle.bk_disk.specs.Calls.{Made, Appended, Cut, Synced, Removed, Renamed, Returned};
+    ghost use Rattle.bk_disk.specs.Calls.{viewed};
     ghost use Rattle.bk_disk.specs.Causes.{IsCaused, HasCause, bumped, has_failed};
     ghost use Rattle.bk_disk.proofs.Unique.{from_test};
     ghost use Rattle.bk_disk.proofs.Counts.{none_within};

@@ -98,7 +98,7 @@ fn write<D: Disk>(disk: &mut D, name: Name, synced: &[u8], unsynced: &[u8]) -> R
 }
 
 #[test]
-fn a_stop_leaves_what_is_chosen(rt: HostRuntime) -> Result<(), Fail> {
+fn a_crash_leaves_what_is_chosen(rt: HostRuntime) -> Result<(), Fail> {
     let cases = [
         (None, [9].as_slice(), b"abcde".as_slice()),
         (Some(1), [0, 0, 2].as_slice(), b"abb".as_slice()),

@@ -1,6 +1,6 @@
 use Rattle.std.proofs.Common.{refl}
 use Rattle.bitcaskd.specs.Shelf.{LeavesPart}
-use Rattle.bitcaskd.proofs.Results.{on_err}
+use Rattle.bk_disk.proofs.Results.{on_err}
 use Rattle.bitcaskd.proofs.ShelfLaws.{append_left, appended_on, extends_on, extends_open, left_any, written_open}
 use Rattle.bitcaskd.proofs.appending.append_text.Goals as goal
 

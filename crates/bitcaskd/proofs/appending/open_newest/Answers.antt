@@ -1,7 +1,7 @@
 use Rattle.std.proofs.Common.{[], ◌∙◌, ap, inl}
 use Rattle.bk_disk.specs.Told.{Told}
 use Rattle.bitcaskd.specs.Shelf.{LeavesPart}
-use Rattle.bitcaskd.proofs.Results.{on_err}
+use Rattle.bk_disk.proofs.Results.{on_err}
 use Rattle.bitcaskd.proofs.ShelfLaws.{extends_on, extends_told, half_repaired_on, image_on, left_image, open_left, repaired_on, repaired_still}
 use Rattle.bitcaskd.proofs.appending.open_newest.Goals as goal
 

@@ -21,7 +21,8 @@ pub returns-clause-stored : goal.returns-clause-stored
 returns-clause-stored g c tells =
     let made = made_ours _ _ _ (g.met.D.Disk.well _ tells) (c.requires tells) (c.in_ok-create.ensures.created tells) in
     let readied = subst (IsOurs c.args.name) (sym (c.in_ok-ready.ensures.told tells)) made in
-    let empty = ap (λ t. bytes_of c.args.name t.image) (c.in_ok-ready.ensures.told tells) ∙ made_bytes _ _ _ _ (c.requires tells) (c.in_ok-create.ensures.created tells) in
+    let empty = ap (λ t. bytes_of c.args.name t.image) (c.in_ok-ready.ensures.told tells)
+    ∙ made_bytes _ _ _ _ (c.requires tells) (c.in_ok-create.ensures.created tells) in
     ap (bytes_of c.args.name) ((c.in_ok-sync.ensures.synced tells).image)
     ∙ appended_whole _ _ _ _ readied (c.in_ok-append.ensures.appended tells)
     ∙ ap (λ bytes. bytes ++ c.args.bytes.now) empty

@@ -3,7 +3,7 @@ use Rattle.bk_base.specs.declared.writes.Write.{Write}
 use Rattle.bk_laws.specs.Record.{record_of}
 use Rattle.bitcaskd.specs.Shelf.{FitsWithin, filed}
 use Rattle.bitcaskd.specs.Store.{put_of, next_of, PutRefused}
-use Rattle.bitcaskd.proofs.Results.{on_err}
+use Rattle.bk_disk.proofs.Results.{on_err}
 use Rattle.bk_record.proofs.Codec.{length-record_of}
 use Rattle.bitcaskd.proofs.StoreLaws.{is_on, reindexed, put-holds, left_text, text_of}
 use Rattle.bitcaskd.proofs.store.Store.put.Goals as goal

@@ -11,7 +11,8 @@ use Rattle.bk_memdisk.proofs.directory.Directory.remove.Goals as goal
 pub returns-in_default-clause-ok : goal.returns-in_default-clause-ok
 returns-in_default-clause-ok c =
     let absent = rw c.deref.ensures.value at (Listings.not_there c.args.name c.deref.result.now (sym c.find.ensures.place ∙ c.in_default.is)) in
-    rw (← c.self.view_is) (Listings.removed_already c.self.inside.files.items c.self.inside.journal.items c.self.invariant.tied c.self.inside.asked.items c.self.inside.stray_views c.args.name absent)
+    rw (← c.self.view_is) (Listings.removed_already c.self.inside.files.items c.self.inside.journal.items
+    c.self.invariant.tied c.self.inside.asked.items c.self.inside.stray_views c.args.name absent)
 
 pub overflow_sub-self : goal.overflow_sub-self
 overflow_sub-self c =
@@ -26,21 +27,37 @@ invariant_of-self-2 c =
     let more = rw c.reserve.ensures.items at c.push_reserved.ensures.items in
     let within = Edits.owed_within c.self.inside.files.items c.in-Some.index c.remove-file.result below c.remove-file.ensures.value in
     record {
-      tied = rw c.remove-file.ensures.items (Listings.gone_tied c.args.name c.self.inside.files.items c.self.inside.journal.items c.push_reserved.new.self.items c.in-Some.index (Removed c.args.name) c.self.invariant.tied first more refl);
-      reserved = rw (c.remove-file.ensures.items, c.owed.ensures.value) (Listings.owed_removed c.self.inside.files.items c.in-Some.index c.remove-file.result c.self.inside.reserved below c.remove-file.ensures.value c.self.invariant.reserved);
-      room = omega (arith, within, c.owed.ensures.value, c.in_ok-reserve.ensures.ok, c.push_reserved.ensures.len, c.push_reserved.ensures.capacity, c.self.invariant.reserved);
+      tied = rw c.remove-file.ensures.items (Listings.gone_tied c.args.name c.self.inside.files.items
+          c.self.inside.journal.items c.push_reserved.new.self.items c.in-Some.index (Removed c.args.name)
+          c.self.invariant.tied first more refl);
+      reserved = rw (c.remove-file.ensures.items, c.owed.ensures.value)
+          (Listings.owed_removed c.self.inside.files.items c.in-Some.index c.remove-file.result
+          c.self.inside.reserved below c.remove-file.ensures.value c.self.invariant.reserved);
+      room = omega (
+        arith,
+        within,
+        c.owed.ensures.value,
+        c.in_ok-reserve.ensures.ok,
+        c.push_reserved.ensures.len,
+        c.push_reserved.ensures.capacity,
+        c.self.invariant.reserved,
+      );
     }
 
 pub returns-clause-ok : goal.returns-clause-ok
 returns-clause-ok c =
     let first = rw c.deref.ensures.value at (found c.args.name c.deref.result.now c.in-Some.index (sym c.find.ensures.place ∙ c.in-Some.is)) in
     let more = rw c.reserve.ensures.items at c.push_reserved.ensures.items in
-    rw (← c.self.view_is, c.remove-file.ensures.items) (Listings.gone_told c.args.name c.self.inside.files.items c.self.inside.journal.items c.push_reserved.new.self.items c.in-Some.index (Removed c.args.name) c.self.invariant.tied first more refl c.self.inside.asked.items c.self.inside.stray_views)
+    rw (← c.self.view_is, c.remove-file.ensures.items) (Listings.gone_told c.args.name c.self.inside.files.items
+    c.self.inside.journal.items c.push_reserved.new.self.items c.in-Some.index (Removed c.args.name)
+    c.self.invariant.tied first more refl c.self.inside.asked.items c.self.inside.stray_views)
 
 pub returns-clause-rooms : goal.returns-clause-rooms
 returns-clause-rooms c n other =
     let first = rw c.deref.ensures.value at (found c.args.name c.deref.result.now c.in-Some.index (sym c.find.ensures.place ∙ c.in-Some.is)) in
-    let same_rooms = Listings.gone_rooms c.args.name c.self.inside.files.items c.self.inside.journal.items c.push_reserved.new.self.items c.in-Some.index (Removed c.args.name) c.self.invariant.tied first (rw c.reserve.ensures.items at c.push_reserved.ensures.items) refl n other in
+    let same_rooms = Listings.gone_rooms c.args.name c.self.inside.files.items c.self.inside.journal.items
+    c.push_reserved.new.self.items c.in-Some.index (Removed c.args.name) c.self.invariant.tied first
+    (rw c.reserve.ensures.items at c.push_reserved.ensures.items) refl n other in
     rw (← c.self.view_is, c.remove-file.ensures.items) (omega (arith, same_rooms))
 
 pub returns-clause-undone : goal.returns-clause-undone

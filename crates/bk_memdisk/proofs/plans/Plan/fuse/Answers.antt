@@ -5,4 +5,10 @@ use Rattle.bk_memdisk.proofs.plans.Plan.fuse.Goals as goal
 
 pub returns : goal.returns
 returns c =
-    rw (c.saturating_add.ensures, ← c.self.view_is) (grind (arith, pairs_split, take_all c.len.result c.self.inside.chosen.items (omega arith), drop_all c.len.result c.self.inside.chosen.items (omega arith)))
+    rw (c.saturating_add.ensures, ← c.self.view_is) (grind (
+      arith,
+      pairs_split,
+      take_all c.len.result
+          c.self.inside.chosen.items (omega arith),
+      drop_all c.len.result c.self.inside.chosen.items (omega arith),
+    ))

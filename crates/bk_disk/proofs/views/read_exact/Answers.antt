@@ -2,8 +2,8 @@ use Rattle.std.proofs.Common.{◌≡◌, ◌∙◌, ap, arith, length, take, dro
 use Rattle.std.proofs.lemmas.List.{length-drop, length-take}
 use Rattle.std.proofs.Math.Seq.{drop-drop}
 use borrow.Rule.Slice.PartMut.{put_mid, same_len_mid}
-use Rattle.bitcaskd.proofs.StoreLaws.{filled}
-use Rattle.bitcaskd.proofs.store.fill.Goals as goal
+use Rattle.bk_disk.proofs.Streams.{filled}
+use Rattle.bk_disk.proofs.views.read_exact.Goals as goal
 
 pub loop-at-preserved : goal.loop-at-preserved
 loop-at-preserved g c =
@@ -17,11 +17,14 @@ loop-at-preserved g c =
     let few : n ≤ k = omega (arith, long, c.in_ok-at.ensures.within) in
     record {
       within = omega (arith, kept, few, c.loop-at.invariant.within);
-      rest = omega (arith, kept, c.in_ok-at.ensures.rest, c.loop-at.invariant.rest);
+      long = kept ∙ c.loop-at.invariant.long;
+      rest = omega (arith, c.in_ok-at.ensures.rest, c.loop-at.invariant.rest);
       bytes = λ tells. filled at k n c.loop-at.into c.read.new.into (g.V.View.left c.args.view.now)
           c.loop-at.invariant.within long few (c.loop-at.invariant.bytes tells)
           ((c.in_ok-at.ensures.bytes tells).bytes ∙ ap (λ (l : List ℕ). take n l) (c.loop-at.invariant.left tells));
       left = λ tells. (c.in_ok-at.ensures.bytes tells).others ∙ ap (λ (l : List ℕ). drop n l) (c.loop-at.invariant.left tells)
           ∙ drop-drop n at (g.V.View.left c.args.view.now);
+      later = omega (arith, c.in_ok-at.ensures.cause.later, c.loop-at.invariant.later);
+      kept = λ strong. c.read.ensures.same_faults (c.loop-at.invariant.fallible ∙ strong) ∙ c.loop-at.invariant.kept strong;
       fallible = c.read.ensures.fallible ∙ c.loop-at.invariant.fallible;
     }
