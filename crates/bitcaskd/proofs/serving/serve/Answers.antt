@@ -1,5 +1,6 @@
 use Rattle.std.proofs.Common.{ℕ, List, [], ◌∷◌, Option, sym, refl, subst, arith, inl}
 use Rattle.bk_base.specs.declared.requests.Reply.TheVariants.{Value, Absent}
+use Rattle.bk_disk.specs.Told.{untold}
 use Rattle.bk_laws.specs.Session.{ShowsGet}
 use Rattle.bk_wire.proofs.RequestLaws.{some_text}
 use Rattle.bitcaskd.specs.Store.{put_of, next_of}
@@ -48,4 +49,4 @@ pub returns-clause-err : goal.returns-clause-err
 returns-clause-err g c =
     refused _ _ c.args.request c.now-now.result _ _ c.now-now.ensures.moment c.now-now.ensures.later
     (λ tells log h. (put_of (next_of c.args.store.now.index) c.now-now.result c.in-Put.key c.in-Put.value ∷ [], omega arith, c.in-Err-put.ensures.err tells log h))
-    c.in-Err-put.ensures.later (0, inl (omega (arith, c.in-Err-put.ensures.views)))
+    c.in-Err-put.ensures.later (0, record { goes = inl (omega (arith, c.in-Err-put.ensures.views)); some = λ h. untold h })
