@@ -5,7 +5,6 @@ cause, after replies that are a first part of the right ones; the files hold the
 answered, and at most a first part of the next.
 """
 
-import os
 import random
 import re
 import subprocess
@@ -101,18 +100,17 @@ def ends_of(call):
     if call.name == "stdout":
         return 5, ("sink",)
     if call.name == LOCK_FILE:
-        # `lock` alone where another process has it, once that is told apart.
-        return 3, ("directory", "lock")
+        return 3, ("directory",)
     if call.name == ".":
-        # `disk` for a listing or a sync; `directory` for the first opening, and wherever it is told apart.
+        # `directory` for the first opening, and `disk` for a listing or a sync.
         return 3, ("directory", "disk")
     return 3, ("disk",)
 
 
-def is_not_yet_retried(call):
-    """An interrupted call of a listing, at which the program may still give up with the status of the table. Once it
-    tries again, this goes away."""
-    return call.fault == "EINTR" and (call.kind == "getdents" or call.kind == "open" and bool(call.at & os.O_DIRECTORY))
+def is_not_retried(call):
+    """An interrupted read of the directory's entries, at which the program gives up with the status of the table. The
+    system interrupts no such read of a local directory."""
+    return call.fault == "EINTR" and call.kind == "getdents"
 
 
 def fault_of_ended(talk, ended, errors):
@@ -143,7 +141,7 @@ class Faults(TracedTest):
         failed = [call for call in calls if call.fault]
         errors = [call for call in failed if call.fault in ("EIO", "ENOSPC")]
         if ended.returncode and not errors:
-            errors = list(filter(is_not_yet_retried, failed))
+            errors = list(filter(is_not_retried, failed))
         acknowledged = talk.acknowledged(ended.stdout)
         # Where nobody waits for replies, many puts may be done whose replies can't be written.
         unheard = at_once and any(call.name == "stdout" for call in errors)

@@ -1,6 +1,8 @@
 //! Syncs that failed. The system may have dropped what such a file had still to write, and answer
 //! the next sync Ok: so each later sync of the file fails, for as long as the disk is used.
-ghost use Rattle.std.specs.Prelude.{◌≡◌, IsTrue, IsErr, is_err};
+ghost use Rattle.std.specs.Prelude.{◌≡◌, IsTrue, IsErr, Err, is_err};
+ghost use Rattle.bk_osdisk.specs.declared.faults.Trouble.TheVariants.{Fault as fault};
+ghost use Rattle.std.specs.List.{list_any};
 
 use crate::faults::Trouble;
 use bk_base::Name;
@@ -33,9 +35,23 @@ impl FailedSyncs {
         }
     }
 
+    /// Whether a sync of the file of a name failed.
+    fn has(&self, name: Name) -> bool
+        ensures { result
+            ≡ list_any (λ other. ⟦<Name as PartialEq>⟧.eq other name) self.now.names.items }
+    {
+        self.names.contains(&name)
+    }
+
     /// Syncs the file of a name. The room for the name is made before, so that a failure is noted.
-    pub(crate) fn sync(&mut self, name: Name, file: &File) -> Result<(), Trouble> {
-        let known = self.names.contains(&name);
+    pub(crate) fn sync(&mut self, name: Name, file: &File) -> Result<(), Trouble>
+        ensures fails { IsTrue
+            (list_any (λ other. ⟦<Name as PartialEq>⟧.eq other name) self.old.names.items)
+            → IsErr result }
+        ensures noted { result ≡ Err fault → IsTrue
+            (list_any (λ other. ⟦<Name as PartialEq>⟧.eq other name) self.new.names.items) }
+    {
+        let known = self.has(name);
         if !known {
             self.names.reserve(1)?;
         }
