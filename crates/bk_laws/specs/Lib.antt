@@ -3,3 +3,4 @@ pub mod History
 pub mod Wire
 pub mod Session
 pub mod Record
+pub mod Version

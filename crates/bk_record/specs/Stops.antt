@@ -3,7 +3,9 @@ use Rattle.std.specs.Prelude.{◌≡◌, ◌≢◌, ℕ, ◌<◌, ◌≤◌, nat
 use Rattle.bk_base.specs.declared.writes.Write.{Write}
 use Rattle.bk_crc.specs.Crc.{crc_of}
 use Rattle.bk_laws.specs.Record.{RecordStands, checksum_of, size_of}
+use Rattle.bk_laws.specs.Version.{is_tombstone}
 use Rattle.bk_record.specs.declared.decoding.Decoded.{Decoded}
+use Rattle.bk_record.specs.declared.decoding.DecodedKey.{DecodedKey}
 use Rattle.bk_record.specs.declared.decoding.Stop.{Stop}
 use Rattle.bk_record.specs.declared.decoding.Stop.TheVariants.{End, Short, BadCheck, BadField, Memory}
 use Rattle.bk_record.specs.declared.header.Header.{Header}
@@ -24,6 +26,12 @@ pub record IsWhole (bytes : List ℕ) (h : Header) (text : List ℕ) : Type 0 wh
   pub sizes : said_size (header_of bytes) ≤ length bytes
   pub is_text : text ≡ take (said_size (header_of bytes)) bytes
 
+-- and its checksum is the one that is stored, and its header that of some write
+pub record IsChecked (bytes : List ℕ) (h : Header) (text : List ℕ) : Type 0 where
+  pub whole : IsWhole bytes h text
+  pub check : h.crc ≡ crc_of (drop 4 text)
+  pub sound : IsSound h
+
 -- Where each refusal comes. No two of them come at the same bytes.
 abbrev pub IsStop : List ℕ → Stop → Type 0
 IsStop bytes End = bytes ≡ []
@@ -39,3 +47,20 @@ pub record IsDecoded (bytes : List ℕ) (d : Decoded) : Type 0 where
   pub stands : RecordStands bytes d.write (drop d.size bytes)
   pub size : d.size ≡ size_of d.write
   pub crc : d.crc ≡ checksum_of d.write
+
+-- what is said of a write without its value
+abbrev pub without_value : Write → DecodedKey
+without_value w = record {
+  key = w.key;
+  seq = w.seq;
+  moment = w.moment;
+  size = size_of w;
+  crc = checksum_of w;
+  gone = is_tombstone w.body;
+}
+
+-- the record at the front of the bytes, without its value
+pub record IsKeyDecoded (bytes : List ℕ) (d : DecodedKey) : Type 0 where
+  pub write : Write
+  pub stands : RecordStands bytes write (drop d.size bytes)
+  pub says : d ≡ without_value write
