@@ -3,16 +3,13 @@ use Rattle.std.proofs.Common.{◌≡◌, ◌⊎◌, ℕ, ◌+◌, ◌<◌, ◌�
 use Rattle.std.specs.declared.option.Option.{Option}
 use Rattle.std.specs.declared.option.Option.TheVariants.{None, Some}
 use Rattle.std.specs.Option.{option_map, is_some, IsSome, IsSomeAnd, IfSome, unwrap_or}
-use Rattle.std.specs.List.{AllByRecursion}
 use Rattle.std.proofs.lemmas.Bool.{cases_Bool, true≢false}
-use Rattle.std.proofs.lemmas.List.{append-nil, length-append, length-take-le, take-append-le, take-take}
+use Rattle.std.proofs.lemmas.List.{append-nil, length-append, length-take-le, take_all, take-append-le, take-take}
 use Rattle.std.specs.Result.{OnOk, OnErr}
 use Rattle.std.specs.declared.result.Result.{Result}
 use Rattle.std.specs.declared.result.Result.TheVariants.{Ok, Err}
 use Rattle.bk_base.specs.declared.names.Name.{Name}
-use Rattle.bk_base.specs.declared.names.Kind.TheVariants.{Main}
 use Rattle.bk_base.specs.declared.rows.Row.{Row}
-use Rattle.bk_base.specs.declared.rows.RowState.TheVariants.{Sealed}
 use Rattle.bk_disk.specs.Names.{same}
 use Rattle.bk_disk.specs.Told.{Table, Front, Told, at, bytes_of, with_name, IsAbsent, IsOurs, IsWell}
 use Rattle.bk_disk.specs.Stops.{front_of}
@@ -22,9 +19,9 @@ use Rattle.bk_disk.proofs.Files.{appended_ours, appended_bytes, appended_whole, 
 use Rattle.bk_disk.proofs.Tables.{at-changed, at-with_name}
 use Rattle.bk_files.specs.declared.catalog.Active.{Active}
 use Rattle.bk_files.specs.Catalog.{Begins, Grows, Known, active_edited, counted, due_of, edited, edited_at, going_on, grown_of, len_of, main, mended, new_active, new_row, sealed, torn, torn_of, with_counts, with_len, with_torn}
-use Rattle.bk_files.specs.Rows.{AreAtRest, AreFromScratch, AreRows, AreSyncedIfSealed, IsActiveRow, IsAtRest, IsRecord, IsRowFromScratch, IsRowSyncedIfSealed, StandsAmong}
+use Rattle.bk_files.specs.Rows.{AreAtRest, AreFromScratch, AreRows, AreSyncedIfSealed, IsActiveRow, IsRecord, IsRowFromScratch, IsRowSyncedIfSealed}
 use Rattle.bk_files.specs.Files.{IsActive, IsConsistentOver, IsConsistentWith, IsUnused, SettledOf, name_of}
-use Rattle.bk_files.proofs.Rows.{AreLike, Untouched, active_from_scratch, active_not_sealed, active_row_grown, active_row_like, active_row_still, all_apart, all_joined, apart_above, apart_below, bytes_kept, edited_at-place, facts_kept, length-edited_at, like_edited, like_parts, ours_kept, rest_ended, rest_joined, rest_kept, rest_like, scratch_kept, scratch_like, sealed_at_rest, synced_kept, synced_like, untouched_appended, untouched_cut, untouched_made, untouched_synced}
+use Rattle.bk_files.proofs.Rows.{AreLike, Untouched, active_from_scratch, active_not_sealed, active_row_grown, active_row_like, active_row_still, all_apart, all_joined, apart_above, apart_below, bytes_kept, edited_at-place, facts_kept, length-edited_at, like_edited, like_parts, ours_kept, rest_joined, rest_kept, rest_like, scratch_kept, scratch_like, sealed_at_rest, synced_kept, synced_like, untouched_appended, untouched_cut, untouched_made, untouched_synced}
 
 -- what a call leaves: what holds between two calls, and the facts where they held before
 pub record Goes (c : Known) (t : Told) (d : Known) (u : Told) : Type 0 where
@@ -54,6 +51,10 @@ active_kept n a t u x w =
       synced = subst (λ o. IsSyncedTo a.len o) (sym x.1) w.synced;
       pending = λ whole. subst (λ o. HasBytes (bytes_of n u.image) o) (sym x.1) (subst (λ b. HasBytes b (at t.fronts n)) (sym bytes) (w.pending whole));
     }
+
+-- while nothing is torn all bytes of the active file are known
+pub known_bytes : (n : Name) (a : Active) (t : Told) → IsActive n a t → a.torn ≡ false → bytes_of n t.image ≡ take a.len (bytes_of n t.image)
+known_bytes n a t w whole = sym (take_all a.len (bytes_of n t.image) (omega (arith, w.known whole)))
 
 -- No call on the active file
 
