@@ -34,13 +34,16 @@ opening_of start = record blank_opening {
 }
 
 -- the run, from its talk and the steps that close it
-runs : (tells : Telling) (start now : Scene) (site : Site) (status result : Status) (closing : List Step) (s : Stopped tells start now status)
+runs : (tells : Telling) (start now : Scene) (site : Site) (status result : Status)
+    (closing : List Step) (s : Stopped tells start now status)
     → (IsTrue tells.disk → start.site.told.image ≡ [])
-    → (IsTrue tells.disk → (log : List Write) × LeadTo (all_steps s.talk closing) log × IsImageAt result site.told.image log)
+    → (IsTrue tells.disk → (log : List Write) × LeadTo (all_steps s.talk closing) log
+    × IsImageAt result site.told.image log)
     → IsServed result s.talk
     → CountedOver start.site site (all_steps s.talk closing) → Closes tells.disk site.told result closing
     → (IsTrue tells.source → Reads result (drop start.taken start.whole) (drop now.taken now.whole) s.talk)
-    → ((out : List ℕ) → Writes status start.sink_faults now.sink_faults out (replies_of s.talk.served) → Writes result start.sink_faults now.sink_faults out (replies_of s.talk.served))
+    → ((out : List ℕ) → Writes status start.sink_faults now.sink_faults out (replies_of s.talk.served)
+    → Writes result start.sink_faults now.sink_faults out (replies_of s.talk.served))
     → TakesMost result tells.source start.taken now.taken → site.moments ≡ now.site.moments
     → Runs tells (outside_of start) (outside_of (at_site now site)) result
 unfolding opening_of
@@ -60,7 +63,8 @@ runs tells start now site status result closing s listed after served counts clo
   most = most;
   legal = λ t. let (log, leads, image) = after t in leads.legal;
   image = λ t. let (log, leads, image) = after t in
-      subst (λ (l : List Write). IsImageAt result site.told.image l) (sym (ap (λ (st : State). st.log) leads.state)) image;
+      subst (λ (l : List Write). IsImageAt result site.told.image l)
+      (sym (ap (λ (st : State). st.log) leads.state)) image;
   from = omega arith;
   from_views = omega arith;
   faults = counts.faults;
@@ -83,15 +87,18 @@ exact_at Long image log is = is
 exact_at NotBuilt image log is = is
 exact_at Door image log is = is
 
-exact_after : (status : Status) (site : Site) (steps : List Step) → StandsAfter site steps → (log : List Write) × LeadTo steps log × IsImageAt status site.told.image log
+exact_after : (status : Status) (site : Site) (steps : List Step) → StandsAfter site steps
+    → (log : List Write) × LeadTo steps log × IsImageAt status site.told.image log
 exact_after status site steps stood = let (log, leads, holds) = stood in
     (log, leads, exact_at status site.told.image log (exact_image site.told site.catalog site.index log holds))
 
-left_after : (site : Site) (steps : List Step) → LeftAfter site steps → (log : List Write) × LeadTo steps log × ((tried : List Write) × (length tried ≤ 1) × IsImageOf site.told.image log tried)
+left_after : (site : Site) (steps : List Step) → LeftAfter site steps → (log : List Write)
+    × LeadTo steps log × ((tried : List Write) × (length tried ≤ 1) × IsImageOf site.told.image log tried)
 left_after site steps left = let (log, tried, leads, few, image) = left in (log, leads, (tried, few, image))
 
 -- what the files hold where the talk ended so
-image_at : (status : Status) (site : Site) (steps : List Step) → EndsAt status site steps → (log : List Write) × LeadTo steps log × IsImageAt status site.told.image log
+image_at : (status : Status) (site : Site) (steps : List Step) → EndsAt status site steps
+    → (log : List Write) × LeadTo steps log × IsImageAt status site.told.image log
 image_at Done site steps ends = exact_after Done site steps ends
 image_at Memory site steps ends = left_after site steps ends
 image_at Words site steps ends = exact_after Words site steps ends
@@ -108,28 +115,38 @@ image_at Door site steps ends = exact_after Door site steps ends
 
 -- a run that no sync closes
 unsynced : (tells : Telling) (start now : Scene) (site : Site) (status : Status) (s : Stopped tells start now status)
-    → (IsTrue tells.disk → start.site.told.image ≡ []) → (IsTrue tells.disk → EndsAt status now.site (steps_of (all_exchanges s.talk)))
+    → (IsTrue tells.disk → start.site.told.image ≡ [])
+    → (IsTrue tells.disk → EndsAt status now.site (steps_of (all_exchanges s.talk)))
     → Closes tells.disk site.told status []
-    → (IsTrue tells.disk → site.told.image ≡ now.site.told.image) → site.faults ≡ now.site.faults → site.views ≡ now.site.views → site.moments ≡ now.site.moments
+    → (IsTrue tells.disk → site.told.image ≡ now.site.told.image) → site.faults ≡ now.site.faults
+    → site.views ≡ now.site.views → site.moments ≡ now.site.moments
     → TakesMost status tells.source start.taken now.taken
     → Runs tells (outside_of start) (outside_of (at_site now site)) status
 unsynced tells start now site status s listed left closes image faults views moments most =
     runs tells start now site status status [] s listed
-    (λ t. let (log, leads, held) = image_at status now.site (steps_of (all_exchanges s.talk)) (left t) in
-    (log, subst (λ (steps : List Step). LeadTo steps log) (sym (append-nil (steps_of (all_exchanges s.talk)))) leads, subst (λ (i : Image). IsImageAt status i log) (sym (image t)) held))
+    (λ t. let (log, leads, held) = image_at status now.site (steps_of (all_exchanges s.talk)) (left t) in (
+      log,
+      subst (λ (steps : List Step). LeadTo steps log)
+          (sym (append-nil (steps_of (all_exchanges s.talk)))) leads,
+      subst (λ (i : Image). IsImageAt status i log) (sym (image t)) held,
+    ))
     s.served
-    (subst (λ (steps : List Step). CountedOver start.site site steps) (sym (append-nil (steps_of (all_exchanges s.talk))))
+    (subst (λ (steps : List Step). CountedOver start.site site steps)
+    (sym (append-nil (steps_of (all_exchanges s.talk))))
     (record { faults = rw faults s.counts.faults; views = rw views s.counts.views }))
     closes s.reads (λ out w. w) most moments
 
 -- the numbers of one more step
 with_step : (start now site : Site) (steps : List Step) (step : Step) → CountedOver start now steps
-    → Counted false now.faults step.faults site.faults → site.views ≡ now.views → step.views ≡ 0 → CountedOver start site (steps ++ step ∷ [])
+    → Counted false now.faults step.faults site.faults → site.views ≡ now.views → step.views ≡ 0
+    → CountedOver start site (steps ++ step ∷ [])
 with_step start now site steps step so_far faults views none =
-    counts_on start now site steps step so_far faults (counted_exactly now.views step.views site.views (omega (arith, views, none)))
+    counts_on start now site steps step so_far faults
+    (counted_exactly now.views step.views site.views (omega (arith, views, none)))
 
 sync_step : Site → ℕ → Step
-sync_step now faults = step_of (record { caller = 0; call = Sync; reply = Numbered (record { 0 = now.index.last }) }) faults 0
+sync_step now faults =
+    step_of (record { caller = 0; call = Sync; reply = Numbered (record { 0 = now.index.last }) }) faults 0
 
 quiet_step : ℕ → Step
 quiet_step faults = step_of (record { caller = 0; call = Quiet; reply = done_answer }) faults 0
@@ -137,13 +154,17 @@ quiet_step faults = step_of (record { caller = 0; call = Quiet; reply = done_ans
 -- a count that rose, by at least 1
 risen : (before now : ℕ) → before ≤ now → Rose before now → (n : ℕ) × (1 ≤ n) × Counted false before n now
 risen before now later rose =
-    let (n, counted) = counts_rose before now later rose in (n, counted.some refl, counted_at_least true before n now counted)
+    let (n, counted) =
+    counts_rose before now later
+    rose in (n, counted.some refl, counted_at_least true before n now counted)
 
 -- the run after a good sync
 synced_run : (tells : Telling) (start now : Scene) (site : Site) (status : Status) (s : Stopped tells start now status)
-    → (IsTrue tells.disk → start.site.told.image ≡ []) → (IsTrue tells.disk → StandsAfter now.site (steps_of (all_exchanges s.talk)))
+    → (IsTrue tells.disk → start.site.told.image ≡ [])
+    → (IsTrue tells.disk → StandsAfter now.site (steps_of (all_exchanges s.talk)))
     → ((n : ℕ) → Closes tells.disk site.told status (sync_step now.site n ∷ []))
-    → (IsTrue tells.disk → site.told.image ≡ now.site.told.image) → now.site.faults ≤ site.faults → site.views ≡ now.site.views → site.moments ≡ now.site.moments
+    → (IsTrue tells.disk → site.told.image ≡ now.site.told.image) → now.site.faults ≤ site.faults
+    → site.views ≡ now.site.views → site.moments ≡ now.site.moments
     → TakesMost status tells.source start.taken now.taken
     → Runs tells (outside_of start) (outside_of (at_site now site)) status
 unfolding sync_step
@@ -151,82 +172,111 @@ synced_run tells start now site status s listed stands closes image later views 
     runs tells start now site status status (sync_step now.site (site.faults - now.site.faults) ∷ []) s listed
     (λ t. let (log, leads, holds) = stands t in (
       log,
-      leads_on (steps_of (all_exchanges s.talk)) log (sync_step now.site (site.faults - now.site.faults)) log leads (record { legal = holds.last; state = refl }),
-      exact_at status site.told.image log (image t ∙ exact_image now.site.told now.site.catalog now.site.index log holds),
+      leads_on (steps_of (all_exchanges s.talk)) log
+          (sync_step now.site (site.faults - now.site.faults)) log leads
+          (record { legal = holds.last; state = refl }),
+      exact_at status site.told.image log
+          (image t ∙ exact_image now.site.told now.site.catalog now.site.index log holds),
     ))
     s.served
-    (with_step start.site now.site site (steps_of (all_exchanges s.talk)) (sync_step now.site (site.faults - now.site.faults)) s.counts (counted_rise now.site.faults site.faults later) views refl)
+    (with_step start.site now.site site (steps_of (all_exchanges s.talk))
+    (sync_step now.site (site.faults - now.site.faults)) s.counts
+    (counted_rise now.site.faults site.faults later) views refl)
     (closes (site.faults - now.site.faults)) s.reads (λ out w. w) most moments
 
 -- the run after a sync that failed
-failed_run : (tells : Telling) (start now : Scene) (site : Site) (status result : Status) (s : Stopped tells start now status)
-    → (IsTrue tells.disk → start.site.told.image ≡ []) → (IsTrue tells.disk → StandsAfter now.site (steps_of (all_exchanges s.talk)))
+failed_run : (tells : Telling) (start now : Scene) (site : Site) (status result : Status)
+    (s : Stopped tells start now status)
+    → (IsTrue tells.disk → start.site.told.image ≡ [])
+    → (IsTrue tells.disk → StandsAfter now.site (steps_of (all_exchanges s.talk)))
     → (n : ℕ) → Closes tells.disk site.told result (quiet_step n ∷ []) → Counted false now.site.faults n site.faults
-    → (IsTrue tells.disk → site.told.image ≡ now.site.told.image) → site.views ≡ now.site.views → site.moments ≡ now.site.moments
+    → (IsTrue tells.disk → site.told.image ≡ now.site.told.image) → site.views ≡ now.site.views
+    → site.moments ≡ now.site.moments
     → (IsTrue tells.source → Reads result (drop start.taken start.whole) (drop now.taken now.whole) s.talk)
-    → ((out : List ℕ) → Writes status start.sink_faults now.sink_faults out (replies_of s.talk.served) → Writes result start.sink_faults now.sink_faults out (replies_of s.talk.served))
+    → ((out : List ℕ) → Writes status start.sink_faults now.sink_faults out (replies_of s.talk.served)
+    → Writes result start.sink_faults now.sink_faults out (replies_of s.talk.served))
     → TakesMost result tells.source start.taken now.taken → IsServed result s.talk
     → Runs tells (outside_of start) (outside_of (at_site now site)) result
 unfolding quiet_step
-failed_run tells start now site status result s listed stands n closes counted image views moments reads writes most served =
+failed_run tells start now site status result s listed stands n closes counted image views moments
+    reads writes most served =
     runs tells start now site status result (quiet_step n ∷ []) s listed
     (λ t. let (log, leads, holds) = stands t in (
       log,
       leads_on (steps_of (all_exchanges s.talk)) log (quiet_step n) log leads (record { legal = tt; state = refl }),
-      exact_at result site.told.image log (image t ∙ exact_image now.site.told now.site.catalog now.site.index log holds),
+      exact_at result site.told.image log
+          (image t ∙ exact_image now.site.told now.site.catalog now.site.index log holds),
     ))
     served
     (with_step start.site now.site site (steps_of (all_exchanges s.talk)) (quiet_step n) s.counts counted views refl)
     closes reads writes most moments
 
 -- From the end of the talk to the end of the run.
-pub closed : (tells : Telling) (start now : Scene) (site : Site) (status result : Status) → Stopped tells start now status
+pub closed : (tells : Telling) (start now : Scene) (site : Site) (status result : Status)
+    → Stopped tells start now status
     → (IsTrue tells.disk → start.site.told.image ≡ [])
     → ClosesBy tells.disk status result site.told now.site.faults site.faults
-    → (IsTrue tells.disk → site.told.image ≡ now.site.told.image) → now.site.faults ≤ site.faults → site.views ≡ now.site.views → site.moments ≡ now.site.moments
+    → (IsTrue tells.disk → site.told.image ≡ now.site.told.image) → now.site.faults ≤ site.faults
+    → site.views ≡ now.site.views → site.moments ≡ now.site.moments
     → Runs tells (outside_of start) (outside_of (at_site now site)) result
 unfolding sync_step quiet_step
 closed tells start now site Done result s listed (inl done) image later views moments =
     subst (λ (r : Status). Runs tells (outside_of start) (outside_of (at_site now site)) r) (sym done.0)
-    (synced_run tells start now site Done s listed s.ends (λ n. record { call = refl; synced = done.1 }) image later views moments s.most)
+    (synced_run tells start now site Done s listed s.ends
+    (λ n. record { call = refl; synced = done.1 }) image later views moments s.most)
 closed tells start now site Done result s listed (inr failed) image later views moments =
     let (n, some, counted) = risen now.site.faults site.faults later failed.1 in
     subst (λ (r : Status). Runs tells (outside_of start) (outside_of (at_site now site)) r) (sym failed.0)
-    (failed_run tells start now site Done Disk s listed s.ends n (record { call = refl; failed = some }) counted image views moments
+    (failed_run tells start now site Done Disk s listed s.ends n
+    (record { call = refl; failed = some }) counted image views moments
     (λ t. ([], s.reads t ∙ sym (append-nil _))) (λ out w. inl w) tt tt)
 closed tells start now site NotBuilt result s listed (is, inl synced) image later views moments =
     subst (λ (r : Status). Runs tells (outside_of start) (outside_of (at_site now site)) r) (sym is)
-    (synced_run tells start now site NotBuilt s listed s.ends (λ n. inl (record { call = refl; synced = synced })) image later views moments tt)
+    (synced_run tells start now site NotBuilt s listed s.ends
+    (λ n. inl (record { call = refl; synced = synced })) image later views moments tt)
 closed tells start now site NotBuilt result s listed (is, inr rose) image later views moments =
     let (n, some, counted) = risen now.site.faults site.faults later rose in
     subst (λ (r : Status). Runs tells (outside_of start) (outside_of (at_site now site)) r) (sym is)
-    (failed_run tells start now site NotBuilt NotBuilt s listed s.ends n (inr (record { call = refl; failed = some })) counted image views moments
+    (failed_run tells start now site NotBuilt NotBuilt s listed s.ends n
+    (inr (record { call = refl; failed = some })) counted image views moments
     s.reads (λ out w. w) tt s.served)
 closed tells start now site Memory result s listed (is, same) image later views moments =
-    subst (λ (r : Status). Runs tells (outside_of start) (outside_of (at_site now site)) r) (sym is) (unsynced tells start now site Memory s listed s.ends refl image same views moments s.most)
+    subst (λ (r : Status). Runs tells (outside_of start) (outside_of (at_site now site)) r) (sym is)
+    (unsynced tells start now site Memory s listed s.ends refl image same views moments s.most)
 closed tells start now site Words result s listed (is, same) image later views moments =
-    subst (λ (r : Status). Runs tells (outside_of start) (outside_of (at_site now site)) r) (sym is) (unsynced tells start now site Words s listed s.ends refl image same views moments s.most)
+    subst (λ (r : Status). Runs tells (outside_of start) (outside_of (at_site now site)) r) (sym is)
+    (unsynced tells start now site Words s listed s.ends refl image same views moments s.most)
 closed tells start now site Disk result s listed (is, same) image later views moments =
-    subst (λ (r : Status). Runs tells (outside_of start) (outside_of (at_site now site)) r) (sym is) (unsynced tells start now site Disk s listed s.ends refl image same views moments s.most)
+    subst (λ (r : Status). Runs tells (outside_of start) (outside_of (at_site now site)) r) (sym is)
+    (unsynced tells start now site Disk s listed s.ends refl image same views moments s.most)
 closed tells start now site Source result s listed (is, same) image later views moments =
-    subst (λ (r : Status). Runs tells (outside_of start) (outside_of (at_site now site)) r) (sym is) (unsynced tells start now site Source s listed s.ends refl image same views moments s.most)
+    subst (λ (r : Status). Runs tells (outside_of start) (outside_of (at_site now site)) r) (sym is)
+    (unsynced tells start now site Source s listed s.ends refl image same views moments s.most)
 closed tells start now site Sink result s listed (is, same) image later views moments =
-    subst (λ (r : Status). Runs tells (outside_of start) (outside_of (at_site now site)) r) (sym is) (unsynced tells start now site Sink s listed s.ends refl image same views moments s.most)
+    subst (λ (r : Status). Runs tells (outside_of start) (outside_of (at_site now site)) r) (sym is)
+    (unsynced tells start now site Sink s listed s.ends refl image same views moments s.most)
 closed tells start now site Syntax result s listed (is, same) image later views moments =
-    subst (λ (r : Status). Runs tells (outside_of start) (outside_of (at_site now site)) r) (sym is) (unsynced tells start now site Syntax s listed s.ends refl image same views moments s.most)
+    subst (λ (r : Status). Runs tells (outside_of start) (outside_of (at_site now site)) r) (sym is)
+    (unsynced tells start now site Syntax s listed s.ends refl image same views moments s.most)
 closed tells start now site Settings result s listed (is, same) image later views moments =
-    subst (λ (r : Status). Runs tells (outside_of start) (outside_of (at_site now site)) r) (sym is) (unsynced tells start now site Settings s listed s.ends refl image same views moments s.most)
+    subst (λ (r : Status). Runs tells (outside_of start) (outside_of (at_site now site)) r) (sym is)
+    (unsynced tells start now site Settings s listed s.ends refl image same views moments s.most)
 closed tells start now site Damaged result s listed (is, same) image later views moments =
-    subst (λ (r : Status). Runs tells (outside_of start) (outside_of (at_site now site)) r) (sym is) (unsynced tells start now site Damaged s listed s.ends refl image same views moments s.most)
+    subst (λ (r : Status). Runs tells (outside_of start) (outside_of (at_site now site)) r) (sym is)
+    (unsynced tells start now site Damaged s listed s.ends refl image same views moments s.most)
 closed tells start now site Full result s listed (is, same) image later views moments =
-    subst (λ (r : Status). Runs tells (outside_of start) (outside_of (at_site now site)) r) (sym is) (unsynced tells start now site Full s listed s.ends refl image same views moments s.most)
+    subst (λ (r : Status). Runs tells (outside_of start) (outside_of (at_site now site)) r) (sym is)
+    (unsynced tells start now site Full s listed s.ends refl image same views moments s.most)
 closed tells start now site Long result s listed (is, same) image later views moments =
-    subst (λ (r : Status). Runs tells (outside_of start) (outside_of (at_site now site)) r) (sym is) (unsynced tells start now site Long s listed s.ends refl image same views moments s.most)
+    subst (λ (r : Status). Runs tells (outside_of start) (outside_of (at_site now site)) r) (sym is)
+    (unsynced tells start now site Long s listed s.ends refl image same views moments s.most)
 closed tells start now site Door result s listed (is, same) image later views moments =
-    subst (λ (r : Status). Runs tells (outside_of start) (outside_of (at_site now site)) r) (sym is) (unsynced tells start now site Door s listed s.ends refl image same views moments s.most)
+    subst (λ (r : Status). Runs tells (outside_of start) (outside_of (at_site now site)) r) (sym is)
+    (unsynced tells start now site Door s listed s.ends refl image same views moments s.most)
 
 -- the status stays, or the disk failed
-pub same_or_disk : (tells : Bool) (status result : Status) (t : Told) (before now : ℕ) → ClosesBy tells status result t before now
+pub same_or_disk : (tells : Bool) (status result : Status) (t : Told) (before now : ℕ)
+    → ClosesBy tells status result t before now
     → (result ≡ status) ⊎ ((result ≡ Disk) × Rose before now)
 same_or_disk tells Done result t before now (inl done) = inl done.0
 same_or_disk tells Done result t before now (inr failed) = inr failed
@@ -246,7 +296,17 @@ same_or_disk tells Door result t before now closes = inl closes.0
 -- the same run, over a disk whose counts had risen no further before it was listed
 pub from_before : (tells : Telling) (told : Told) (faults views : ℕ) (old new : Outside) (status : Status)
     → (IsTrue tells.disk → old.told ≡ told) → faults ≤ old.faults → views ≤ old.views → Runs tells old new status
-    → Runs tells (record { told = told; faults = faults; views = views; whole = old.whole; taken = old.taken; written = old.written; sink_faults = old.sink_faults; moments = old.moments }) new status
+    → Runs tells
+    (record {
+      told = told;
+      faults = faults;
+      views = views;
+      whole = old.whole;
+      taken = old.taken;
+      written = old.written;
+      sink_faults = old.sink_faults;
+      moments = old.moments;
+    }) new status
 from_before tells told faults views old new status same later more r = record {
   opening = r.opening;
   talk = r.talk;
@@ -273,11 +333,13 @@ Rose-on : (first before now last : ℕ) → first ≤ before → Rose before now
 Rose-on first before now last early rose late = omega arith
 
 -- what makes a run end by the disk
-pub disk_rose : (tells : Bool) (status result : Status) (t : Told) (first before now last views_first views_before views_now : ℕ)
+pub disk_rose : (tells : Bool) (status result : Status) (t : Told)
+    (first before now last views_first views_before views_now : ℕ)
     → ClosesBy tells status result t now last → (status ≡ Disk → Rose before now ⊎ Rose views_before views_now)
     → first ≤ before → before ≤ now → now ≤ last → views_first ≡ views_before
     → result ≡ Disk → Rose first last ⊎ Rose views_first views_now
-disk_rose tells status result t first before now last views_first views_before views_now closes cause early middle late same is =
+disk_rose tells status result t first before now last views_first views_before views_now closes cause
+    early middle late same is =
     go (same_or_disk tells status result t now last closes)
   where
     from_talk : Rose before now ⊎ Rose views_before views_now → Rose first last ⊎ Rose views_first views_now
@@ -288,21 +350,24 @@ disk_rose tells status result t first before now last views_first views_before v
     go (inl e) = from_talk (cause (sym e ∙ is))
     go (inr failed) = inl (omega (arith, failed.1, early, middle))
 
-pub built : (tells : Bool) (status result : Status) (t : Told) (before now : ℕ) → ClosesBy tells status result t before now → IsBuilt status → IsBuilt result
+pub built : (tells : Bool) (status result : Status) (t : Told) (before now : ℕ)
+    → ClosesBy tells status result t before now → IsBuilt status → IsBuilt result
 built tells status result t before now closes is = go (same_or_disk tells status result t before now closes)
   where
     go : (result ≡ status) ⊎ ((result ≡ Disk) × Rose before now) → IsBuilt result
     go (inl e) = subst (λ (s : Status). IsBuilt s) (sym e) is
     go (inr failed) = subst (λ (s : Status). IsBuilt s) (sym failed.0) tt
 
-pub was_source : (tells : Bool) (status result : Status) (t : Told) (before now : ℕ) → ClosesBy tells status result t before now → result ≡ Source → status ≡ Source
+pub was_source : (tells : Bool) (status result : Status) (t : Told) (before now : ℕ)
+    → ClosesBy tells status result t before now → result ≡ Source → status ≡ Source
 was_source tells status result t before now closes is = go (same_or_disk tells status result t before now closes)
   where
     go : (result ≡ status) ⊎ ((result ≡ Disk) × Rose before now) → status ≡ Source
     go (inl e) = sym e ∙ is
     go (inr failed) = absurd (cc (failed.0, is))
 
-pub was_sink : (tells : Bool) (status result : Status) (t : Told) (before now : ℕ) → ClosesBy tells status result t before now → result ≡ Sink → status ≡ Sink
+pub was_sink : (tells : Bool) (status result : Status) (t : Told) (before now : ℕ)
+    → ClosesBy tells status result t before now → result ≡ Sink → status ≡ Sink
 was_sink tells status result t before now closes is = go (same_or_disk tells status result t before now closes)
   where
     go : (result ≡ status) ⊎ ((result ≡ Disk) × Rose before now) → status ≡ Sink
@@ -310,9 +375,13 @@ was_sink tells status result t before now closes is = go (same_or_disk tells sta
     go (inr failed) = absurd (cc (failed.0, is))
 
 -- a talk that ended so left the store standing
-pub stood : (tells : Telling) (start now : Scene) (status : Status) → Stopped tells start now status → IsSyncedAt status → IsTrue tells.disk → Stands now.site.told now.site.catalog now.site.index
+pub stood : (tells : Telling) (start now : Scene) (status : Status) → Stopped tells start now status
+    → IsSyncedAt status → IsTrue tells.disk → Stands now.site.told now.site.catalog now.site.index
 stood tells start now status s is t = go is (s.ends t)
   where
-    go : IsSyncedAt status → EndsAt status now.site (steps_of (all_exchanges s.talk)) → Stands now.site.told now.site.catalog now.site.index
-    go (inl e) ends = let (log, leads, holds) = subst (λ (st : Status). EndsAt st now.site (steps_of (all_exchanges s.talk))) e ends in (log, holds)
-    go (inr e) ends = let (log, leads, holds) = subst (λ (st : Status). EndsAt st now.site (steps_of (all_exchanges s.talk))) e ends in (log, holds)
+    go : IsSyncedAt status → EndsAt status now.site (steps_of (all_exchanges s.talk))
+        → Stands now.site.told now.site.catalog now.site.index
+    go (inl e) ends = let (log, leads, holds) =
+        subst (λ (st : Status). EndsAt st now.site (steps_of (all_exchanges s.talk))) e ends in (log, holds)
+    go (inr e) ends = let (log, leads, holds) =
+        subst (λ (st : Status). EndsAt st now.site (steps_of (all_exchanges s.talk))) e ends in (log, holds)

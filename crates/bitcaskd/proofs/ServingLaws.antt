@@ -35,7 +35,8 @@ abbrev pub answer_of : Option (List ℕ) → Answer
 answer_of None = Nothing
 answer_of (Some value) = Found value
 
-get-leads : (log : List Write) (key : List ℕ) (now : Moment) (found : Option (List ℕ)) (faults views : ℕ) → found ≡ live log key now.0 0
+get-leads : (log : List Write) (key : List ℕ) (now : Moment) (found : Option (List ℕ))
+    (faults views : ℕ) → found ≡ live log key now.0 0
     → Leads log (step_of (record { caller = 0; call = get_call key now; reply = answer_of found }) faults views) log
 get-leads log key now None faults views is = record { legal = sym is; state = refl }
 get-leads log key now (Some value) faults views is = record { legal = sym is; state = refl }
@@ -49,7 +50,8 @@ pub get-served : (dt ct : Bool) (key : List ℕ) (now : Moment) (found : Option 
     → Served dt ct (Get key) reply old new
 get-served dt ct key now found reply old new shows first later keeps done faults views = record {
   now = now;
-  step = step_of (record { caller = 0; call = get_call key now; reply = answer_of found }) (new.faults - old.faults) views.0;
+  step = step_of (record { caller = 0; call = get_call key now; reply = answer_of found })
+      (new.faults - old.faults) views.0;
   serves = (refl, shows);
   ticks = λ tells. (first tells, later tells);
   goes = λ tells log h. (
@@ -67,17 +69,26 @@ pub put-served : (dt ct : Bool) (key value : List ℕ) (seq : Seq) (now : Moment
     → Served dt ct (Put key value) (Numbered seq) old new
 put-served dt ct key value seq now old new first later done faults views = record {
   now = now;
-  step = step_of (record { caller = 0; call = put_call key value now; reply = numbered_answer seq }) (new.faults - old.faults) 0;
+  step = step_of (record { caller = 0; call = put_call key value now; reply = numbered_answer seq })
+      (new.faults - old.faults) 0;
   serves = (refl, refl);
   ticks = λ tells. (first tells, later tells);
-  goes = λ tells log h. (log ++ put_of seq now key value ∷ [], record { legal = (done tells log h).0; state = refl }, (done tells log h).1);
-  counts = record { faults = counted_rise old.faults new.faults faults; views = counted_exactly old.views 0 new.views (omega (arith, views)) };
+  goes = λ tells log h. (
+    log ++ put_of seq now key value ∷ [],
+    record { legal = (done tells log h).0; state = refl },
+    (done tells log h).1,
+  );
+  counts = record {
+    faults = counted_rise old.faults new.faults faults;
+    views = counted_exactly old.views 0 new.views (omega (arith, views));
+  };
 }
 
 -- a call that was refused adds a step that says nothing
 pub refused : (dt ct : Bool) (request : Request) (now : Moment) (old new : Site)
     → (IsTrue ct → now ≡ first_moment old.moments) → (IsTrue ct → new.moments ≡ later_moments old.moments)
-    → (IsTrue dt → (log : List Write) → Holds old.told old.catalog old.index log → (tried : List Write) × (length tried ≤ 1) × IsImageOf new.told.image log tried)
+    → (IsTrue dt → (log : List Write) → Holds old.told old.catalog old.index log
+    → (tried : List Write) × (length tried ≤ 1) × IsImageOf new.told.image log tried)
     → old.faults ≤ new.faults → Counts false old.views new.views
     → Refused dt ct request old new
 refused dt ct request now old new first later left faults views = record {
@@ -100,7 +111,8 @@ one_call (Put key value) now reply (e ∷ []) serves = (e, refl, serves.0)
 one_call (Put key value) now reply [] serves = absurd serves
 one_call (Put key value) now reply (e ∷ f ∷ es) serves = absurd serves
 
-pub cut_off : (dt ct : Bool) (request : Request) (reply : Reply) (old new : Site) → Served dt ct request reply old new → Refused dt ct request old new
+pub cut_off : (dt ct : Bool) (request : Request) (reply : Reply) (old new : Site)
+    → Served dt ct request reply old new → Refused dt ct request old new
 cut_off dt ct request reply old new s = record {
   now = s.now;
   step = s.step;

@@ -36,7 +36,8 @@ use Rattle.bitcaskd.specs.Talking.{Scene, LeadTo, StandsAfter, LeftAfter, Counte
 use Rattle.bitcaskd.proofs.StoreLaws.{image_of}
 
 -- lists that gain a last item
-AllByRecursion-snoc : {X : Type 0} (P : X → Type 0) (xs : List X) (x : X) → AllByRecursion P xs → P x → AllByRecursion P (xs ++ x ∷ [])
+AllByRecursion-snoc : {X : Type 0} (P : X → Type 0) (xs : List X) (x : X) → AllByRecursion P xs → P x
+    → AllByRecursion P (xs ++ x ∷ [])
 AllByRecursion-snoc P [] x all here = (here, all)
 AllByRecursion-snoc P (y ∷ ys) x all here = (all.0, AllByRecursion-snoc P ys x all.1 here)
 
@@ -50,12 +51,14 @@ flat_map-snoc f xs x = flat_map-append f xs (x ∷ []) ∙ ap (λ l. flat_map f 
 sum_by-snoc : {X : Type 0} (f : X → ℕ) (xs : List X) (x : X) → sum_by f (xs ++ x ∷ []) ≡ sum_by f xs + f x
 sum_by-snoc {X} f xs x = go 0 xs
   where
-    go : (a : ℕ) (ys : List X) → fold (λ (n : ℕ) (y : X). n + f y) a (ys ++ x ∷ []) ≡ fold (λ (n : ℕ) (y : X). n + f y) a ys + f x
+    go : (a : ℕ) (ys : List X)
+        → fold (λ (n : ℕ) (y : X). n + f y) a (ys ++ x ∷ []) ≡ fold (λ (n : ℕ) (y : X). n + f y) a ys + f x
     go a [] = refl
     go a (y ∷ ys) = go (a + f y) ys
 
 -- what one more step adds
-IsLegal-snoc : (s : State) (es : List Entry) (e : Entry) → IsLegal 0 s es → IsReply 0 (state_of s es) e.caller e.call e.reply → IsLegal 0 s (es ++ e ∷ [])
+IsLegal-snoc : (s : State) (es : List Entry) (e : Entry) → IsLegal 0 s es
+    → IsReply 0 (state_of s es) e.caller e.call e.reply → IsLegal 0 s (es ++ e ∷ [])
 IsLegal-snoc s [] e legal reply = (reply, legal)
 IsLegal-snoc s (f ∷ fs) e legal reply = (legal.0, IsLegal-snoc (after s f) fs e legal.1 reply)
 
@@ -63,83 +66,125 @@ state_of-snoc : (s : State) (es : List Entry) (e : Entry) → state_of s (es ++ 
 state_of-snoc s [] e = refl
 state_of-snoc s (f ∷ fs) e = state_of-snoc (after s f) fs e
 
-pub leads_on : (steps : List Step) (log : List Write) (step : Step) (later : List Write) → LeadTo steps log → Leads log step later → LeadTo (steps ++ step ∷ []) later
+pub leads_on : (steps : List Step) (log : List Write) (step : Step) (later : List Write)
+    → LeadTo steps log → Leads log step later → LeadTo (steps ++ step ∷ []) later
 leads_on steps log step later so_far next =
     let more = map-snoc (λ (s : Step). s.entry) steps step in
     record {
       legal = subst (λ (es : List Entry). IsLegal 0 (plain []) es) (sym more)
           (IsLegal-snoc (plain []) (entries steps) step.entry so_far.legal
-          (subst (λ (s : State). IsReply 0 s step.entry.caller step.entry.call step.entry.reply) (sym so_far.state) next.legal));
-      state = ap (λ (es : List Entry). state_of (plain []) es) more ∙ state_of-snoc (plain []) (entries steps) step.entry
+          (subst (λ (s : State). IsReply 0 s step.entry.caller step.entry.call step.entry.reply)
+          (sym so_far.state) next.legal));
+      state = ap (λ (es : List Entry). state_of (plain []) es) more
+          ∙ state_of-snoc (plain []) (entries steps) step.entry
           ∙ ap (λ (s : State). after s step.entry) so_far.state ∙ next.state;
     }
 
 pub counts_on : (old now new : Site) (steps : List Step) (step : Step) → CountedOver old now steps
-    → Counted false now.faults step.faults new.faults → Counted false now.views step.views new.views → CountedOver old new (steps ++ step ∷ [])
+    → Counted false now.faults step.faults new.faults → Counted false now.views step.views new.views
+    → CountedOver old new (steps ++ step ∷ [])
 counts_on old now new steps step so_far faults views = record {
-  faults = subst (λ (n : ℕ). Counted false old.faults n new.faults) (sym (sum_by-snoc (λ (s : Step). s.faults) steps step))
+  faults = subst (λ (n : ℕ). Counted false old.faults n new.faults)
+      (sym (sum_by-snoc (λ (s : Step). s.faults) steps step))
       (counted_on false false old.faults (faults_in steps) now.faults step.faults new.faults so_far.faults faults);
   views = subst (λ (n : ℕ). Counted false old.views n new.views) (sym (sum_by-snoc (λ (s : Step). s.views) steps step))
       (counted_on false false old.views (views_in steps) now.views step.views new.views so_far.views views);
 }
 
-Ticks-snoc : (ms : List Moment) (m : Moment) (a b c : List Moment) → Ticks ms a b → Ticks (m ∷ []) b c → Ticks (ms ++ m ∷ []) a c
+Ticks-snoc : (ms : List Moment) (m : Moment) (a b c : List Moment) → Ticks ms a b → Ticks (m ∷ []) b c
+    → Ticks (ms ++ m ∷ []) a c
 Ticks-snoc [] m a b c old next = (next.0 ∙ ap first_moment old, next.1 ∙ ap later_moments old)
 Ticks-snoc (n ∷ ns) m a b c old next = (old.0, Ticks-snoc ns m (later_moments a) b c old.1 next)
 
 abbrev pub at_site : Scene → Site → Scene
-at_site scene site = record { site = site; whole = scene.whole; taken = scene.taken; written = scene.written; sink_faults = scene.sink_faults }
+at_site scene site =
+    record {
+      site = site;
+      whole = scene.whole;
+      taken = scene.taken;
+      written = scene.written;
+      sink_faults = scene.sink_faults;
+    }
 
 abbrev pub with_sink : Scene → List ℕ → ℕ → Scene
-with_sink scene written faults = record { site = scene.site; whole = scene.whole; taken = scene.taken; written = written; sink_faults = faults }
+with_sink scene written faults =
+    record {
+      site = scene.site;
+      whole = scene.whole;
+      taken = scene.taken;
+      written = written;
+      sink_faults = faults;
+    }
 
 abbrev pub with_source : Scene → List ℕ → ℕ → Scene
-with_source scene whole took = record { site = scene.site; whole = whole; taken = took; written = scene.written; sink_faults = scene.sink_faults }
+with_source scene whole took =
+    record {
+      site = scene.site;
+      whole = whole;
+      taken = took;
+      written = scene.written;
+      sink_faults = scene.sink_faults;
+    }
 
 -- the input, where one more request was taken off its front
-reads_on : (input all rest text more unread : List ℕ) → input ≡ (all ++ rest) ++ unread → rest ≡ text ++ more → input ≡ ((all ++ text) ++ more) ++ unread
+reads_on : (input all rest text more unread : List ℕ) → input ≡ (all ++ rest) ++ unread
+    → rest ≡ text ++ more → input ≡ ((all ++ text) ++ more) ++ unread
 reads_on input all rest text more unread read stands =
-    read ∙ ap (λ (r : List ℕ). (all ++ r) ++ unread) stands ∙ ap (λ (l : List ℕ). l ++ unread) (sym (append_assoc all text more))
+    read ∙ ap (λ (r : List ℕ). (all ++ r) ++ unread) stands
+    ∙ ap (λ (l : List ℕ). l ++ unread) (sym (append_assoc all text more))
 
 abbrev pub turn_of : Request → Moment → Step → List Reply → Exchange
 turn_of request now step replies = record { request = request; now = now; steps = step ∷ []; replies = replies }
 
 -- One more request was served, and its reply gathered.
-pub goes_on : (tells : Telling) (start old : Scene) (site : Site) (before after : Stream) (gathered more : List ℕ) (served : List Exchange) (request : Request)
-    → SoFar tells start old before gathered served → StandsIn before.rest request after.rest → taken before ≡ taken after
+pub goes_on : (tells : Telling) (start old : Scene) (site : Site) (before after : Stream)
+    (gathered more : List ℕ) (served : List Exchange) (request : Request)
+    → SoFar tells start old before gathered served → StandsIn before.rest request after.rest
+    → taken before ≡ taken after
     → (a : Answered tells.disk tells.clock request old.site site gathered more)
-    → SoFar tells start (at_site old site) after more (served ++ turn_of request a.served.now a.served.step (a.reply ∷ []) ∷ [])
+    → SoFar tells start (at_site old site) after more
+    (served ++ turn_of request a.served.now a.served.step (a.reply ∷ []) ∷ [])
 goes_on tells start old site before after gathered more served request so stands same a =
     let turn = turn_of request a.served.now a.served.step (a.reply ∷ []) in
     record {
-      each = AllByRecursion-snoc (IsExchange 0) served turn so.each (record { fits = stands.fits; serves = a.served.serves });
+      each = AllByRecursion-snoc (IsExchange 0) served turn so.each
+          (record { fits = stands.fits; serves = a.served.serves });
       whole = so.whole;
-      read = λ t. reads_on (drop start.taken start.whole) (requests_of served) before.rest (request_text request) after.rest (drop old.taken old.whole) (so.read t) stands.whole
-          ∙ ap (λ (q : List ℕ). (q ++ after.rest) ++ drop old.taken old.whole) (sym (flat_map-snoc (λ (t : Exchange). request_text t.request) served turn));
+      read = λ t. reads_on (drop start.taken start.whole) (requests_of served) before.rest
+          (request_text request) after.rest (drop old.taken old.whole) (so.read t) stands.whole
+          ∙ ap (λ (q : List ℕ). (q ++ after.rest) ++ drop old.taken old.whole)
+          (sym (flat_map-snoc (λ (t : Exchange). request_text t.request) served turn));
       taken = λ t. so.taken t ∙ ap (λ n. start.taken + n) same;
       made = λ t. let (out, written, made) = so.made t in (
         out,
         written,
-        ap (λ (m : List ℕ). out ++ m) a.written ∙ sym (append_assoc out gathered (reply_text a.reply)) ∙ ap (λ (l : List ℕ). l ++ reply_text a.reply) made
+        ap (λ (m : List ℕ). out ++ m) a.written ∙ sym (append_assoc out gathered (reply_text a.reply))
+            ∙ ap (λ (l : List ℕ). l ++ reply_text a.reply) made
             ∙ ap (λ (l : List ℕ). replies_of served ++ l) (sym (append-nil (reply_text a.reply)))
             ∙ sym (flat_map-snoc (λ (t : Exchange). flat_map reply_text t.replies) served turn),
       );
-      ticks = λ t. subst (λ (ms : List Moment). Ticks ms start.site.moments site.moments) (sym (map-snoc (λ (t : Exchange). t.now) served turn))
-          (Ticks-snoc (moments_of served) a.served.now start.site.moments old.site.moments site.moments (so.ticks t) (a.served.ticks t));
+      ticks = λ t. subst (λ (ms : List Moment). Ticks ms start.site.moments site.moments)
+          (sym (map-snoc (λ (t : Exchange). t.now) served turn))
+          (Ticks-snoc (moments_of served) a.served.now start.site.moments old.site.moments
+          site.moments (so.ticks t) (a.served.ticks t));
       stands = λ t. let (log, leads, holds) = so.stands t in let (later, next, held) = a.served.goes t log holds in (
         later,
         subst (λ (steps : List Step). LeadTo steps later) (sym (flat_map-snoc (λ (t : Exchange). t.steps) served turn))
             (leads_on (steps_of served) log a.served.step later leads next),
         held,
       );
-      counts = subst (λ (steps : List Step). CountedOver start.site site steps) (sym (flat_map-snoc (λ (t : Exchange). t.steps) served turn))
-          (counts_on start.site old.site site (steps_of served) a.served.step so.counts a.served.counts.faults a.served.counts.views);
+      counts = subst (λ (steps : List Step). CountedOver start.site site steps)
+          (sym (flat_map-snoc (λ (t : Exchange). t.steps) served turn))
+          (counts_on start.site old.site site (steps_of served) a.served.step so.counts
+          a.served.counts.faults a.served.counts.views);
       sink = so.sink;
     }
 
 -- A part of what was gathered went out.
-pub moves_out : (tells : Telling) (start now : Scene) (stream : Stream) (gathered left written : List ℕ) (faults : ℕ) (served : List Exchange)
-    → SoFar tells start now stream gathered served → MovesOut tells.sink now.written gathered written left → now.sink_faults ≤ faults
+pub moves_out : (tells : Telling) (start now : Scene) (stream : Stream)
+    (gathered left written : List ℕ) (faults : ℕ) (served : List Exchange)
+    → SoFar tells start now stream gathered served
+    → MovesOut tells.sink now.written gathered written left → now.sink_faults ≤ faults
     → SoFar tells start (with_sink now written faults) stream left served
 moves_out tells start now stream gathered left written faults served so moved later = record {
   each = so.each;
@@ -158,8 +203,10 @@ moves_out tells start now stream gathered left written faults served so moved la
 }
 
 -- One more piece of the input was taken.
-pub takes_on : (tells : Telling) (start now : Scene) (old new : Inlet) (gathered : List ℕ) (served : List Exchange) (piece : List ℕ)
-    → SoFar tells start now old.stream gathered served → now.whole ≡ old.whole → now.taken ≡ old.taken → TakesPiece tells.source old new piece
+pub takes_on : (tells : Telling) (start now : Scene) (old new : Inlet) (gathered : List ℕ)
+    (served : List Exchange) (piece : List ℕ)
+    → SoFar tells start now old.stream gathered served → now.whole ≡ old.whole → now.taken ≡ old.taken
+    → TakesPiece tells.source old new piece
     → (IsTrue tells.source → new.whole ≡ old.whole)
     → SoFar tells start (with_source now new.whole new.taken) new.stream gathered served
 takes_on tells start now old new gathered served piece so whole taken_is took same = record {
@@ -168,7 +215,9 @@ takes_on tells start now old new gathered served piece so whole taken_is took sa
   read = λ t. so.read t ∙ ap (λ (l : List ℕ). (requests_of served ++ old.stream.rest) ++ l)
       (ap (λ (w : List ℕ). drop now.taken w) whole ∙ ap (λ (n : ℕ). drop n old.whole) taken_is ∙ took.bytes t)
       ∙ sym (append_assoc (requests_of served ++ old.stream.rest) piece (drop new.taken new.whole))
-      ∙ ap (λ (l : List ℕ). l ++ drop new.taken new.whole) (append_assoc (requests_of served) old.stream.rest piece ∙ ap (λ (r : List ℕ). requests_of served ++ r) (sym took.rest));
+      ∙ ap (λ (l : List ℕ). l ++ drop new.taken new.whole)
+      (append_assoc (requests_of served) old.stream.rest piece
+      ∙ ap (λ (r : List ℕ). requests_of served ++ r) (sym took.rest));
   taken = λ t. took.moved t ∙ ap (λ n. n + length piece) (sym taken_is ∙ so.taken t) ∙ go;
   made = so.made;
   ticks = so.ticks;
@@ -205,7 +254,8 @@ all_served Door served = refl
 
 -- the files after a run that stood
 pub left_standing : (site : Site) (steps : List Step) → StandsAfter site steps → LeftAfter site steps
-left_standing site steps stood = let (log, leads, holds) = stood in (log, [], leads, omega arith, image_of site.told site.catalog site.index log [] holds)
+left_standing site steps stood = let (log, leads, holds) =
+    stood in (log, [], leads, omega arith, image_of site.told site.catalog site.index log [] holds)
 
 ends_standing : (status : Status) (site : Site) (steps : List Step) → StandsAfter site steps → EndsAt status site steps
 ends_standing Done site steps stood = stood
@@ -222,7 +272,8 @@ ends_standing Full site steps stood = stood
 ends_standing Long site steps stood = stood
 ends_standing Door site steps stood = stood
 
-writes_whole : (status : Status) (before now : ℕ) (out replies : List ℕ) → out ≡ replies → Writes status before now out replies
+writes_whole : (status : Status) (before now : ℕ) (out replies : List ℕ) → out ≡ replies
+    → Writes status before now out replies
 writes_whole Done before now out replies e = e
 writes_whole NotBuilt before now out replies e = e
 writes_whole Source before now out replies e = e
@@ -238,7 +289,8 @@ writes_whole Full before now out replies e = inl e
 writes_whole Door before now out replies e = inl e
 
 -- The run ends with all replies written, by a status whose part on the input holds.
-pub ends : (tells : Telling) (start now : Scene) (stream : Stream) (whole : List ℕ) (took : ℕ) (served : List Exchange) (status : Status)
+pub ends : (tells : Telling) (start now : Scene) (stream : Stream) (whole : List ℕ) (took : ℕ)
+    (served : List Exchange) (status : Status)
     → SoFar tells start now stream [] served
     → (IsTrue tells.source → whole ≡ now.whole)
     → (IsTrue tells.source → Reads status (drop start.taken start.whole) (drop took whole) (whole_talk served))
@@ -249,29 +301,42 @@ ends tells start now stream whole took served status so same reads most = record
   served = all_served status served;
   whole = λ t. same t ∙ so.whole t;
   reads = reads;
-  writes = λ t. let (out, was, made) = so.made t in
-      (out, was, writes_whole status start.sink_faults now.sink_faults out (replies_of served) (sym (append-nil out) ∙ made));
-  ticks = λ t. subst (λ (ts : List Exchange). Ticks (moments_of ts) start.site.moments now.site.moments) (sym (append-nil served)) (so.ticks t);
+  writes = λ t. let (out, was, made) = so.made t in (
+    out,
+    was,
+    writes_whole status start.sink_faults now.sink_faults out (replies_of served)
+        (sym (append-nil out) ∙ made),
+  );
+  ticks = λ t.
+      subst (λ (ts : List Exchange). Ticks (moments_of ts) start.site.moments now.site.moments)
+      (sym (append-nil served)) (so.ticks t);
   most = most;
-  ends = λ t. subst (λ (ts : List Exchange). EndsAt status now.site (steps_of ts)) (sym (append-nil served)) (ends_standing status now.site (steps_of served) (so.stands t));
-  counts = subst (λ (ts : List Exchange). CountedOver start.site now.site (steps_of ts)) (sym (append-nil served)) so.counts;
+  ends = λ t. subst (λ (ts : List Exchange). EndsAt status now.site (steps_of ts))
+      (sym (append-nil served)) (ends_standing status now.site (steps_of served) (so.stands t));
+  counts = subst (λ (ts : List Exchange). CountedOver start.site now.site (steps_of ts))
+      (sym (append-nil served)) so.counts;
 }
 
 -- what the source held, where some of it is left
-pub some_left : (tells : Telling) (start now : Scene) (stream : Stream) (gathered : List ℕ) (served : List Exchange) → SoFar tells start now stream gathered served
-    → IsTrue tells.source → (rest : List ℕ) × (drop start.taken start.whole ≡ requests_of (all_exchanges (whole_talk served)) ++ rest)
+pub some_left : (tells : Telling) (start now : Scene) (stream : Stream) (gathered : List ℕ)
+    (served : List Exchange) → SoFar tells start now stream gathered served
+    → IsTrue tells.source → (rest : List ℕ)
+    × (drop start.taken start.whole ≡ requests_of (all_exchanges (whole_talk served)) ++ rest)
 some_left tells start now stream gathered served so t = (
   stream.rest ++ drop now.taken now.whole,
   so.read t ∙ append_assoc (requests_of served) stream.rest (drop now.taken now.whole)
-      ∙ ap (λ (ts : List Exchange). requests_of ts ++ (stream.rest ++ drop now.taken now.whole)) (sym (append-nil served)),
+      ∙ ap (λ (ts : List Exchange). requests_of ts ++ (stream.rest ++ drop now.taken now.whole))
+      (sym (append-nil served)),
 )
 
 Rose-from : (start before now : ℕ) → start ≤ before → Rose before now → Rose start now
 Rose-from start before now later rose = omega arith
 
 -- The sink failed, and the run ends by it.
-pub sink_ends : (tells : Telling) (start now : Scene) (stream : Stream) (gathered written : List ℕ) (faults : ℕ) (served : List Exchange)
-    → SoFar tells start now stream gathered served → FailsOut tells.sink now.written gathered written now.sink_faults faults
+pub sink_ends : (tells : Telling) (start now : Scene) (stream : Stream) (gathered written : List ℕ)
+    (faults : ℕ) (served : List Exchange)
+    → SoFar tells start now stream gathered served
+    → FailsOut tells.sink now.written gathered written now.sink_faults faults
     → Stopped tells start (with_sink now written faults) Sink
 sink_ends tells start now stream gathered written faults served so failed = record {
   talk = whole_talk served;
@@ -282,30 +347,49 @@ sink_ends tells start now stream gathered written faults served so failed = reco
   writes = λ t. let (out, was, made) = so.made t in let (part, rest, is, split) = failed.0 t in (
     out ++ part,
     is ∙ ap (λ (l : List ℕ). l ++ part) was ∙ append_assoc start.written out part,
-    inr (rest, append_assoc out part rest ∙ ap (λ (l : List ℕ). out ++ l) split ∙ made, Rose-from start.sink_faults now.sink_faults faults so.sink failed.1),
+    inr (
+      rest,
+      append_assoc out part rest ∙ ap (λ (l : List ℕ). out ++ l) split
+          ∙ made,
+      Rose-from start.sink_faults now.sink_faults faults so.sink failed.1,
+    ),
   );
-  ticks = λ t. subst (λ (ts : List Exchange). Ticks (moments_of ts) start.site.moments now.site.moments) (sym (append-nil served)) (so.ticks t);
+  ticks = λ t.
+      subst (λ (ts : List Exchange). Ticks (moments_of ts) start.site.moments now.site.moments)
+      (sym (append-nil served)) (so.ticks t);
   most = tt;
-  ends = λ t. subst (λ (ts : List Exchange). StandsAfter now.site (steps_of ts)) (sym (append-nil served)) (so.stands t);
-  counts = subst (λ (ts : List Exchange). CountedOver start.site now.site (steps_of ts)) (sym (append-nil served)) so.counts;
+  ends = λ t. subst (λ (ts : List Exchange). StandsAfter now.site (steps_of ts))
+      (sym (append-nil served)) (so.stands t);
+  counts = subst (λ (ts : List Exchange). CountedOver start.site now.site (steps_of ts))
+      (sym (append-nil served)) so.counts;
 }
 
 -- what the sink took before the run ended
-last_written : (tells : Bool) (start before gathered now : List ℕ) (start_faults faults_before faults_now : ℕ) (replies : List ℕ)
-    → (out : List ℕ) × (before ≡ start ++ out) × (out ++ gathered ≡ replies) → start_faults ≤ faults_before → IsTrue tells
+last_written : (tells : Bool) (start before gathered now : List ℕ)
+    (start_faults faults_before faults_now : ℕ) (replies : List ℕ)
+    → (out : List ℕ) × (before ≡ start ++ out) × (out ++ gathered ≡ replies)
+    → start_faults ≤ faults_before → IsTrue tells
     → Flushed tells before now gathered faults_before faults_now
     → (out : List ℕ) × (now ≡ start ++ out) × WrittenPart start_faults faults_now out replies
-last_written tells start before gathered now start_faults faults_before faults_now replies (out, was, made) later t (inl wrote) =
+last_written tells start before gathered now start_faults faults_before faults_now replies
+    (out, was, made) later t (inl wrote) =
     (out ++ gathered, wrote t ∙ ap (λ (l : List ℕ). l ++ gathered) was ∙ append_assoc start out gathered, inl made)
-last_written tells start before gathered now start_faults faults_before faults_now replies (out, was, made) later t (inr failed) =
+last_written tells start before gathered now start_faults faults_before faults_now replies
+    (out, was, made) later t (inr failed) =
     let (part, rest, is, split) = failed.0 t in (
       out ++ part,
       is ∙ ap (λ (l : List ℕ). l ++ part) was ∙ append_assoc start out part,
-      inr (rest, append_assoc out part rest ∙ ap (λ (l : List ℕ). out ++ l) split ∙ made, Rose-from start_faults faults_before faults_now later failed.1),
+      inr (
+        rest,
+        append_assoc out part rest ∙ ap (λ (l : List ℕ). out ++ l) split
+            ∙ made,
+        Rose-from start_faults faults_before faults_now later failed.1,
+      ),
     )
 
 -- A request was refused, and the run ends by it.
-refused_ends : (tells : Telling) (start old : Scene) (site : Site) (before after : Stream) (gathered written : List ℕ) (faults : ℕ) (served : List Exchange) (request : Request)
+refused_ends : (tells : Telling) (start old : Scene) (site : Site) (before after : Stream)
+    (gathered written : List ℕ) (faults : ℕ) (served : List Exchange) (request : Request)
     → SoFar tells start old before gathered served → StandsIn before.rest request after.rest
     → (r : Refused tells.disk tells.clock request old.site site)
     → Flushed tells.sink old.written written gathered old.sink_faults faults
@@ -314,47 +398,77 @@ refused_ends tells start old site before after gathered written faults served re
     let turn = turn_of request r.now r.step [] in
     record {
       talk = record { served = served; cut = turn ∷ [] };
-      said = record { each = so.each; last = (record { fits = stands.fits; silent = refl; made = r.made }, tt); one = omega arith };
+      said = record {
+        each = so.each;
+        last = (record { fits = stands.fits; silent = refl; made = r.made }, tt);
+        one = omega arith;
+      };
       served = tt;
       whole = so.whole;
       reads = λ t. (
         after.rest ++ drop old.taken old.whole,
-        reads_on (drop start.taken start.whole) (requests_of served) before.rest (request_text request) after.rest (drop old.taken old.whole) (so.read t) stands.whole
+        reads_on (drop start.taken start.whole) (requests_of served) before.rest
+            (request_text request) after.rest (drop old.taken old.whole) (so.read t) stands.whole
             ∙ append_assoc (requests_of served ++ request_text request) after.rest (drop old.taken old.whole)
-            ∙ ap (λ (q : List ℕ). q ++ (after.rest ++ drop old.taken old.whole)) (sym (flat_map-snoc (λ (t : Exchange). request_text t.request) served turn)),
+            ∙ ap (λ (q : List ℕ). q ++ (after.rest ++ drop old.taken old.whole))
+            (sym (flat_map-snoc (λ (t : Exchange). request_text t.request) served turn)),
       );
-      writes = λ t. last_written tells.sink start.written old.written gathered written start.sink_faults old.sink_faults faults (replies_of served) (so.made t) so.sink t flushed;
-      ticks = λ t. subst (λ (ms : List Moment). Ticks ms start.site.moments site.moments) (sym (map-snoc (λ (t : Exchange). t.now) served turn))
-          (Ticks-snoc (moments_of served) r.now start.site.moments old.site.moments site.moments (so.ticks t) (r.ticks t));
+      writes = λ t. last_written tells.sink start.written old.written gathered written
+          start.sink_faults old.sink_faults faults (replies_of served) (so.made t) so.sink t flushed;
+      ticks = λ t. subst (λ (ms : List Moment). Ticks ms start.site.moments site.moments)
+          (sym (map-snoc (λ (t : Exchange). t.now) served turn))
+          (Ticks-snoc (moments_of served) r.now start.site.moments old.site.moments site.moments
+          (so.ticks t) (r.ticks t));
       most = tt;
-      ends = λ t. let (log, leads, holds) = so.stands t in let (later, tried, next, few, image) = r.leaves t log holds in (
-        later,
-        tried,
-        subst (λ (steps : List Step). LeadTo steps later) (sym (flat_map-snoc (λ (t : Exchange). t.steps) served turn))
-            (leads_on (steps_of served) log r.step later leads next),
-        few,
-        image,
-      );
-      counts = subst (λ (steps : List Step). CountedOver start.site site steps) (sym (flat_map-snoc (λ (t : Exchange). t.steps) served turn))
+      ends = λ t. let (log, leads, holds) = so.stands t in let (later, tried, next, few, image) =
+          r.leaves t log holds in (
+            later,
+            tried,
+            subst (λ (steps : List Step). LeadTo steps later) (sym (flat_map-snoc (λ (t : Exchange). t.steps) served turn))
+                (leads_on (steps_of served) log r.step later leads next),
+            few,
+            image,
+          );
+      counts = subst (λ (steps : List Step). CountedOver start.site site steps)
+          (sym (flat_map-snoc (λ (t : Exchange). t.steps) served turn))
           (counts_on start.site old.site site (steps_of served) r.step so.counts r.counts.faults r.counts.views);
     }
 
 by_disk : (tells : Telling) (start now : Scene) → Stopped tells start now Memory → Stopped tells start now Disk
-by_disk tells start now s = record { talk = s.talk; said = s.said; served = tt; whole = s.whole; reads = s.reads; writes = s.writes; ticks = s.ticks; most = s.most; ends = s.ends; counts = s.counts }
+by_disk tells start now s =
+    record {
+      talk = s.talk;
+      said = s.said;
+      served = tt;
+      whole = s.whole;
+      reads = s.reads;
+      writes = s.writes;
+      ticks = s.ticks;
+      most = s.most;
+      ends = s.ends;
+      counts = s.counts;
+    }
 
-pub refusal_ends : (refusal : Refusal) (tells : Telling) (start old : Scene) (site : Site) (before after : Stream) (gathered written : List ℕ) (faults : ℕ) (served : List Exchange) (request : Request)
+pub refusal_ends : (refusal : Refusal) (tells : Telling) (start old : Scene) (site : Site)
+    (before after : Stream) (gathered written : List ℕ) (faults : ℕ) (served : List Exchange)
+    (request : Request)
     → SoFar tells start old before gathered served → StandsIn before.rest request after.rest
     → Refused tells.disk tells.clock request old.site site
     → Flushed tells.sink old.written written gathered old.sink_faults faults
     → Stopped tells start (with_sink (at_site old site) written faults) (status_of refusal)
-refusal_ends refused_memory tells start old site before after gathered written faults served request so stands r flushed =
+refusal_ends refused_memory tells start old site before after gathered written faults served request
+    so stands r flushed =
     refused_ends tells start old site before after gathered written faults served request so stands r flushed
 refusal_ends refused_disk tells start old site before after gathered written faults served request so stands r flushed =
-    by_disk tells start _ (refused_ends tells start old site before after gathered written faults served request so stands r flushed)
+    by_disk tells start _
+    (refused_ends tells start old site before after gathered written faults served request so
+    stands r flushed)
 
 -- Memory ran out before a request was served.
-pub memory_ends : (tells : Telling) (start now : Scene) (stream : Stream) (gathered written : List ℕ) (faults : ℕ) (served : List Exchange)
-    → SoFar tells start now stream gathered served → Flushed tells.sink now.written written gathered now.sink_faults faults
+pub memory_ends : (tells : Telling) (start now : Scene) (stream : Stream) (gathered written : List ℕ)
+    (faults : ℕ) (served : List Exchange)
+    → SoFar tells start now stream gathered served
+    → Flushed tells.sink now.written written gathered now.sink_faults faults
     → Stopped tells start (with_sink now written faults) Memory
 memory_ends tells start now stream gathered written faults served so flushed = record {
   talk = whole_talk served;
@@ -362,18 +476,27 @@ memory_ends tells start now stream gathered written faults served so flushed = r
   served = tt;
   whole = so.whole;
   reads = some_left tells start now stream gathered served so;
-  writes = λ t. last_written tells.sink start.written now.written gathered written start.sink_faults now.sink_faults faults (replies_of served) (so.made t) so.sink t flushed;
-  ticks = λ t. subst (λ (ts : List Exchange). Ticks (moments_of ts) start.site.moments now.site.moments) (sym (append-nil served)) (so.ticks t);
+  writes = λ t. last_written tells.sink start.written now.written gathered written start.sink_faults
+      now.sink_faults faults (replies_of served) (so.made t) so.sink t flushed;
+  ticks = λ t.
+      subst (λ (ts : List Exchange). Ticks (moments_of ts) start.site.moments now.site.moments)
+      (sym (append-nil served)) (so.ticks t);
   most = tt;
-  ends = λ t. subst (λ (ts : List Exchange). LeftAfter now.site (steps_of ts)) (sym (append-nil served)) (left_standing now.site (steps_of served) (so.stands t));
-  counts = subst (λ (ts : List Exchange). CountedOver start.site now.site (steps_of ts)) (sym (append-nil served)) so.counts;
+  ends = λ t. subst (λ (ts : List Exchange). LeftAfter now.site (steps_of ts))
+      (sym (append-nil served)) (left_standing now.site (steps_of served) (so.stands t));
+  counts = subst (λ (ts : List Exchange). CountedOver start.site now.site (steps_of ts))
+      (sym (append-nil served)) so.counts;
 }
 
 -- bytes that go on to no request are some
 fits_a : Fits (Get (97 ∷ []))
-fits_a = record { bounds = record { some = omega arith; short = omega arith }; bytes = λ i. grind (arith, common_steps) }
+fits_a = record {
+  bounds = record { some = omega arith; short = omega arith };
+  bytes = λ i. grind (arith, common_steps);
+}
 
-pub bad_left : (tells : Telling) (start now : Scene) (stream : Stream) (gathered : List ℕ) (served : List Exchange) → SoFar tells start now stream gathered served
+pub bad_left : (tells : Telling) (start now : Scene) (stream : Stream) (gathered : List ℕ)
+    (served : List Exchange) → SoFar tells start now stream gathered served
     → IsBad stream.rest → IsTrue tells.source → Reads NotBuilt (drop start.taken start.whole) [] (whole_talk served)
 unfolding some_left
 bad_left tells start now stream gathered served so never t =
@@ -382,50 +505,64 @@ bad_left tells start now stream gathered served so never t =
   where
     some : (front back : List ℕ) → IsBad front → 0 < length (front ++ back)
     some (x ∷ xs) back never = omega arith
-    some [] back never = absurd (never (request_text (Get (97 ∷ []))) (Get (97 ∷ [])) [] (record { fits = fits_a; whole = sym (append-nil (request_text (Get (97 ∷ [])))) }))
+    some [] back never =
+        absurd (never (request_text (Get (97 ∷ []))) (Get (97 ∷ [])) []
+        (record { fits = fits_a; whole = sym (append-nil (request_text (Get (97 ∷ [])))) }))
 
 -- The input ended: within a request, or behind the last one.
-pub input_left : (tells : Telling) (start now : Scene) (stream : Stream) (gathered : List ℕ) (served : List Exchange) → SoFar tells start now stream gathered served
+pub input_left : (tells : Telling) (start now : Scene) (stream : Stream) (gathered : List ℕ)
+    (served : List Exchange) → SoFar tells start now stream gathered served
     → (IsTrue tells.source → drop now.taken now.whole ≡ []) → IsPartial stream.rest → 0 < length stream.rest
     → IsTrue tells.source → Reads NotBuilt (drop start.taken start.whole) [] (whole_talk served)
 input_left tells start now stream gathered served so none part some t = (
   stream.rest,
-  so.read t ∙ ap (λ (l : List ℕ). (requests_of served ++ stream.rest) ++ l) (none t) ∙ append-nil (requests_of served ++ stream.rest)
+  so.read t ∙ ap (λ (l : List ℕ). (requests_of served ++ stream.rest) ++ l) (none t)
+      ∙ append-nil (requests_of served ++ stream.rest)
       ∙ ap (λ (ts : List Exchange). requests_of ts ++ stream.rest) (sym (append-nil served)),
   some,
   none_in_partial stream.rest part,
 )
 
-pub all_read : (tells : Telling) (start now : Scene) (stream : Stream) (gathered : List ℕ) (served : List Exchange) → SoFar tells start now stream gathered served
+pub all_read : (tells : Telling) (start now : Scene) (stream : Stream) (gathered : List ℕ)
+    (served : List Exchange) → SoFar tells start now stream gathered served
     → (IsTrue tells.source → drop now.taken now.whole ≡ []) → stream.rest ≡ []
     → IsTrue tells.source → Reads Done (drop start.taken start.whole) [] (whole_talk served)
 all_read tells start now stream gathered served so none empty t =
-    so.read t ∙ ap (λ (l : List ℕ). (requests_of served ++ stream.rest) ++ l) (none t) ∙ append-nil (requests_of served ++ stream.rest)
+    so.read t ∙ ap (λ (l : List ℕ). (requests_of served ++ stream.rest) ++ l) (none t)
+    ∙ append-nil (requests_of served ++ stream.rest)
     ∙ ap (λ (l : List ℕ). requests_of served ++ l) empty ∙ append-nil (requests_of served)
     ∙ ap (λ (ts : List Exchange). requests_of ts) (sym (append-nil served))
 
 -- The run stops with less than a request behind those that were served.
-partial_left : (tells : Telling) (start now : Scene) (stream : Stream) (gathered whole : List ℕ) (took : ℕ) (served : List Exchange) → SoFar tells start now stream gathered served
+partial_left : (tells : Telling) (start now : Scene) (stream : Stream) (gathered whole : List ℕ)
+    (took : ℕ) (served : List Exchange) → SoFar tells start now stream gathered served
     → (IsTrue tells.source → whole ≡ now.whole) → (IsTrue tells.source → took ≡ now.taken) → IsPartial stream.rest
     → IsTrue tells.source → ReadsAll (drop start.taken start.whole) (drop took whole) (whole_talk served)
 partial_left tells start now stream gathered whole took served so same unmoved part t = (
   stream.rest,
   so.read t
-      ∙ ap (λ (l : List ℕ). (requests_of served ++ stream.rest) ++ l) (sym (ap (λ (n : ℕ). drop n whole) (unmoved t) ∙ ap (λ (w : List ℕ). drop now.taken w) (same t)))
+      ∙ ap (λ (l : List ℕ). (requests_of served ++ stream.rest) ++ l)
+      (sym (ap (λ (n : ℕ). drop n whole) (unmoved t) ∙ ap (λ (w : List ℕ). drop now.taken w) (same t)))
       ∙ ap (λ (ts : List Exchange). (requests_of ts ++ stream.rest) ++ drop took whole) (sym (append-nil served)),
   part,
 )
 
 -- what a read took of the source
-pub took_piece : (whole now_whole into : List ℕ) (before now n : ℕ) → Takes whole before now n into → now_whole ≡ whole → drop before whole ≡ take n into ++ drop now now_whole
+pub took_piece : (whole now_whole into : List ℕ) (before now n : ℕ) → Takes whole before now n into
+    → now_whole ≡ whole → drop before whole ≡ take n into ++ drop now now_whole
 took_piece whole now_whole into before now n took same =
     sym (take-append-drop n (drop before whole))
     ∙ ap (λ (l : List ℕ). l ++ drop n (drop before whole)) (sym took.bytes)
-    ∙ ap (λ (l : List ℕ). take n into ++ l) (drop-drop n before whole ∙ ap (λ (m : ℕ). drop m whole) (sym took.moved) ∙ ap (λ (w : List ℕ). drop now w) (sym same))
+    ∙ ap (λ (l : List ℕ). take n into ++ l)
+    (drop-drop n before whole ∙ ap (λ (m : ℕ). drop m whole) (sym took.moved)
+    ∙ ap (λ (w : List ℕ). drop now w) (sym same))
 
 -- What a run does with one request, from the laws above.
-pub asks_on : (r : Option Status) (dt kt ct : Bool) (request : Request) (old new : Site) (written : List ℕ) (faults : ℕ) (gathered more : List ℕ) (later : List ℕ) (faults_later : ℕ) (left : List ℕ)
-    → Answered dt ct request old new gathered more → WritesSome r kt written faults more later faults_later left → faults ≤ faults_later
+pub asks_on : (r : Option Status) (dt kt ct : Bool) (request : Request) (old new : Site)
+    (written : List ℕ) (faults : ℕ) (gathered more : List ℕ) (later : List ℕ) (faults_later : ℕ)
+    (left : List ℕ)
+    → Answered dt ct request old new gathered more
+    → WritesSome r kt written faults more later faults_later left → faults ≤ faults_later
     → Asks r dt kt ct request old written faults gathered new later faults_later left
 asks_on None dt kt ct request old new written faults gathered more later faults_later left a some rises =
     λ st whole took before after stands same start served so.
@@ -445,80 +582,127 @@ asks_on (Some status) dt kt ct request old new written faults gathered more late
     (sink_ends tells start (at_site scene new) after more later faults_later turns
     (goes_on tells start scene new before after gathered more served request so stands same a) some.1)
 
-pub asks_no_more : (refusal : Refusal) (dt kt ct : Bool) (request : Request) (old new : Site) (written : List ℕ) (faults : ℕ) (gathered : List ℕ) (later : List ℕ) (faults_later : ℕ) (left : List ℕ)
+pub asks_no_more : (refusal : Refusal) (dt kt ct : Bool) (request : Request) (old new : Site)
+    (written : List ℕ) (faults : ℕ) (gathered : List ℕ) (later : List ℕ) (faults_later : ℕ) (left : List ℕ)
     → Refused dt ct request old new → Flushed kt written later gathered faults faults_later
     → Asks (Some (status_of refusal)) dt kt ct request old written faults gathered new later faults_later left
 asks_no_more refusal dt kt ct request old new written faults gathered later faults_later left r flushed =
     λ st whole took before after stands same start served so.
-    refusal_ends refusal (telling dt st kt ct) start (scene_of old whole took written faults) new before after gathered later faults_later served request so stands r flushed
+    refusal_ends refusal (telling dt st kt ct) start (scene_of old whole took written faults) new
+    before after gathered later faults_later served request so stands r flushed
 
 -- What a run does where it reads on.
-pub reads_no_more : (dt st kt ct : Bool) (site : Site) (whole : List ℕ) (took : ℕ) (written : List ℕ) (faults : ℕ) (gathered later : List ℕ) (faults_later : ℕ) (stream after : Stream) (left : List ℕ)
+pub reads_no_more : (dt st kt ct : Bool) (site : Site) (whole : List ℕ) (took : ℕ) (written : List ℕ)
+    (faults : ℕ) (gathered later : List ℕ) (faults_later : ℕ) (stream after : Stream) (left : List ℕ)
     → FailsOut kt written gathered later faults faults_later
-    → Turns (Some Sink) (telling dt st kt ct) (scene_of site whole took written faults) stream gathered (scene_of site whole took later faults_later) after left
+    → Turns (Some Sink) (telling dt st kt ct) (scene_of site whole took written faults) stream
+    gathered (scene_of site whole took later faults_later) after left
 reads_no_more dt st kt ct site whole took written faults gathered later faults_later stream after left failed =
-    λ start served so. sink_ends (telling dt st kt ct) start (scene_of site whole took written faults) stream gathered later faults_later served so failed
+    λ start served so. sink_ends (telling dt st kt ct) start (scene_of site whole took written faults)
+    stream gathered later faults_later served so failed
 
 -- all that was gathered went out
-emptied : (tells : Telling) (start : Scene) (site : Site) (whole : List ℕ) (took : ℕ) (written : List ℕ) (faults : ℕ) (gathered later : List ℕ) (faults_later : ℕ) (stream : Stream) (served : List Exchange)
+emptied : (tells : Telling) (start : Scene) (site : Site) (whole : List ℕ) (took : ℕ)
+    (written : List ℕ) (faults : ℕ) (gathered later : List ℕ) (faults_later : ℕ) (stream : Stream)
+    (served : List Exchange)
     → SoFar tells start (scene_of site whole took written faults) stream gathered served
     → (IsTrue tells.sink → Wrote written later gathered) → faults ≤ faults_later
     → SoFar tells start (scene_of site whole took later faults_later) stream [] served
 emptied tells start site whole took written faults gathered later faults_later stream served so wrote rises =
-    moves_out tells start (scene_of site whole took written faults) stream gathered [] later faults_later served so (λ t. (gathered, wrote t, sym (append-nil gathered))) rises
+    moves_out tells start (scene_of site whole took written faults) stream gathered [] later
+    faults_later served so (λ t. (gathered, wrote t, sym (append-nil gathered))) rises
 
-pub stops_at_bad : (dt st kt ct : Bool) (site : Site) (whole : List ℕ) (took : ℕ) (written : List ℕ) (faults : ℕ) (gathered later : List ℕ) (faults_later : ℕ) (stream after : Stream) (left : List ℕ)
+pub stops_at_bad : (dt st kt ct : Bool) (site : Site) (whole : List ℕ) (took : ℕ) (written : List ℕ)
+    (faults : ℕ) (gathered later : List ℕ) (faults_later : ℕ) (stream after : Stream) (left : List ℕ)
     → IsBad stream.rest → (IsTrue kt → Wrote written later gathered) → faults ≤ faults_later
-    → Turns (Some NotBuilt) (telling dt st kt ct) (scene_of site whole took written faults) stream gathered (scene_of site whole took later faults_later) after left
-stops_at_bad dt st kt ct site whole took written faults gathered later faults_later stream after left never wrote rises =
+    → Turns (Some NotBuilt) (telling dt st kt ct) (scene_of site whole took written faults) stream
+    gathered (scene_of site whole took later faults_later) after left
+stops_at_bad dt st kt ct site whole took written faults gathered later faults_later stream after left
+    never wrote rises =
     λ start served so.
-    let so' = emptied (telling dt st kt ct) start site whole took written faults gathered later faults_later stream served so wrote rises in
-    ends (telling dt st kt ct) start (scene_of site whole took later faults_later) stream whole took served NotBuilt so' (λ t. refl)
+    let so' =
+    emptied (telling dt st kt ct) start site whole took written faults gathered later faults_later
+    stream served so wrote rises in
+    ends (telling dt st kt ct) start (scene_of site whole took later faults_later) stream whole took
+    served NotBuilt so' (λ t. refl)
     (bad_left (telling dt st kt ct) start (scene_of site whole took later faults_later) stream [] served so' never) tt
 
-pub reads_more : (i : Input) (last : Bool) (dt st kt ct : Bool) (site : Site) (old new : Inlet) (written : List ℕ) (faults : ℕ) (gathered later : List ℕ) (faults_later : ℕ)
+pub reads_more : (i : Input) (last : Bool) (dt st kt ct : Bool) (site : Site) (old new : Inlet)
+    (written : List ℕ) (faults : ℕ) (gathered later : List ℕ) (faults_later : ℕ)
     → IsPartial old.stream.rest → (IsTrue kt → Wrote written later gathered) → faults ≤ faults_later
-    → Gives i st old new → (last ≡ true → new.stream.rest ≡ []) → (last ≡ false → 0 < length new.stream.rest) → (IsTrue st → new.whole ≡ old.whole)
-    → Turns (after_input i last) (telling dt st kt ct) (scene_of site old.whole old.taken written faults) old.stream gathered (scene_of site new.whole new.taken later faults_later) new.stream []
-reads_more Taken last dt st kt ct site old new written faults gathered later faults_later part wrote rises (piece, took) empty some same =
+    → Gives i st old new → (last ≡ true → new.stream.rest ≡ [])
+    → (last ≡ false → 0 < length new.stream.rest) → (IsTrue st → new.whole ≡ old.whole)
+    → Turns (after_input i last) (telling dt st kt ct)
+    (scene_of site old.whole old.taken written faults) old.stream gathered
+    (scene_of site new.whole new.taken later faults_later) new.stream []
+reads_more Taken last dt st kt ct site old new written faults gathered later faults_later part wrote
+    rises (piece, took) empty some same =
     λ start served so. (
       served,
-      takes_on (telling dt st kt ct) start (scene_of site old.whole old.taken later faults_later) old new [] served piece
-          (emptied (telling dt st kt ct) start site old.whole old.taken written faults gathered later faults_later old.stream served so wrote rises) refl refl took same,
+      takes_on (telling dt st kt ct) start (scene_of site old.whole old.taken later faults_later) old
+          new [] served piece
+          (emptied (telling dt st kt ct) start site old.whole old.taken written faults gathered later
+          faults_later old.stream served so wrote rises) refl refl took same,
     )
-reads_more Ended true dt st kt ct site old new written faults gathered later faults_later part wrote rises (still, below, none) empty some same =
+reads_more Ended true dt st kt ct site old new written faults gathered later faults_later part wrote
+    rises (still, below, none) empty some same =
     λ start served so.
-    let so' = emptied (telling dt st kt ct) start site old.whole old.taken written faults gathered later faults_later old.stream served so wrote rises in
-    ends (telling dt st kt ct) start (scene_of site old.whole old.taken later faults_later) old.stream new.whole new.taken served Done so' same
-    (all_read (telling dt st kt ct) start (scene_of site old.whole old.taken later faults_later) old.stream [] served so' (λ t. (none t).0) (ap (λ s. s.rest) (sym still) ∙ empty refl))
+    let so' =
+    emptied (telling dt st kt ct) start site old.whole old.taken written faults gathered later
+    faults_later old.stream served so wrote rises in
+    ends (telling dt st kt ct) start (scene_of site old.whole old.taken later faults_later) old.stream
+    new.whole new.taken served Done so' same
+    (all_read (telling dt st kt ct) start (scene_of site old.whole old.taken later faults_later)
+    old.stream [] served so' (λ t. (none t).0) (ap (λ s. s.rest) (sym still) ∙ empty refl))
     (λ t. omega (arith, so.taken t, below, (none t).1))
-reads_more Ended false dt st kt ct site old new written faults gathered later faults_later part wrote rises (still, below, none) empty some same =
+reads_more Ended false dt st kt ct site old new written faults gathered later faults_later part wrote
+    rises (still, below, none) empty some same =
     λ start served so.
-    let so' = emptied (telling dt st kt ct) start site old.whole old.taken written faults gathered later faults_later old.stream served so wrote rises in
-    ends (telling dt st kt ct) start (scene_of site old.whole old.taken later faults_later) old.stream new.whole new.taken served NotBuilt so' same
-    (input_left (telling dt st kt ct) start (scene_of site old.whole old.taken later faults_later) old.stream [] served so' (λ t. (none t).0) part
+    let so' =
+    emptied (telling dt st kt ct) start site old.whole old.taken written faults gathered later
+    faults_later old.stream served so wrote rises in
+    ends (telling dt st kt ct) start (scene_of site old.whole old.taken later faults_later) old.stream
+    new.whole new.taken served NotBuilt so' same
+    (input_left (telling dt st kt ct) start (scene_of site old.whole old.taken later faults_later)
+    old.stream [] served so' (λ t. (none t).0) part
     (subst (λ (s : Stream). 0 < length s.rest) still (some refl)))
     tt
-reads_more took_most last dt st kt ct site old new written faults gathered later faults_later part wrote rises (still, all, unmoved) empty some same =
+reads_more took_most last dt st kt ct site old new written faults gathered later faults_later part
+    wrote rises (still, all, unmoved) empty some same =
     λ start served so.
-    let so' = emptied (telling dt st kt ct) start site old.whole old.taken written faults gathered later faults_later old.stream served so wrote rises in
-    ends (telling dt st kt ct) start (scene_of site old.whole old.taken later faults_later) old.stream new.whole new.taken served Long so' same
-    (partial_left (telling dt st kt ct) start (scene_of site old.whole old.taken later faults_later) old.stream [] new.whole new.taken served so' same unmoved part)
+    let so' =
+    emptied (telling dt st kt ct) start site old.whole old.taken written faults gathered later
+    faults_later old.stream served so wrote rises in
+    ends (telling dt st kt ct) start (scene_of site old.whole old.taken later faults_later) old.stream
+    new.whole new.taken served Long so' same
+    (partial_left (telling dt st kt ct) start (scene_of site old.whole old.taken later faults_later)
+    old.stream [] new.whole new.taken served so' same unmoved part)
     (λ t. omega (arith, so.taken t, all, unmoved t))
-reads_more Failed last dt st kt ct site old new written faults gathered later faults_later part wrote rises (still, rose, unmoved) empty some same =
+reads_more Failed last dt st kt ct site old new written faults gathered later faults_later part wrote
+    rises (still, rose, unmoved) empty some same =
     λ start served so.
-    let so' = emptied (telling dt st kt ct) start site old.whole old.taken written faults gathered later faults_later old.stream served so wrote rises in
-    ends (telling dt st kt ct) start (scene_of site old.whole old.taken later faults_later) old.stream new.whole new.taken served Source so' same
-    (partial_left (telling dt st kt ct) start (scene_of site old.whole old.taken later faults_later) old.stream [] new.whole new.taken served so' same unmoved part) tt
-reads_more no_memory last dt st kt ct site old new written faults gathered later faults_later part wrote rises still empty some same =
+    let so' =
+    emptied (telling dt st kt ct) start site old.whole old.taken written faults gathered later
+    faults_later old.stream served so wrote rises in
+    ends (telling dt st kt ct) start (scene_of site old.whole old.taken later faults_later) old.stream
+    new.whole new.taken served Source so' same
+    (partial_left (telling dt st kt ct) start (scene_of site old.whole old.taken later faults_later)
+    old.stream [] new.whole new.taken served so' same unmoved part) tt
+reads_more no_memory last dt st kt ct site old new written faults gathered later faults_later part
+    wrote rises still empty some same =
     λ start served so.
-    let so' = emptied (telling dt st kt ct) start site old.whole old.taken written faults gathered later faults_later old.stream served so wrote rises in
-    ends (telling dt st kt ct) start (scene_of site old.whole old.taken later faults_later) old.stream new.whole new.taken served Memory so' same
-    (some_left (telling dt st kt ct) start (scene_of site old.whole old.taken later faults_later) old.stream [] served so') tt
+    let so' =
+    emptied (telling dt st kt ct) start site old.whole old.taken written faults gathered later
+    faults_later old.stream served so wrote rises in
+    ends (telling dt st kt ct) start (scene_of site old.whole old.taken later faults_later) old.stream
+    new.whole new.taken served Memory so' same
+    (some_left (telling dt st kt ct) start (scene_of site old.whole old.taken later faults_later)
+    old.stream [] served so') tt
 
 -- how far a run has come before its first request
 pub nothing_yet : (tells : Telling) (start : Scene) (stream : Stream)
-    → (IsTrue tells.disk → Holds start.site.told start.site.catalog start.site.index []) → stream.rest ≡ [] → taken stream ≡ 0
+    → (IsTrue tells.disk → Holds start.site.told start.site.catalog start.site.index [])
+    → stream.rest ≡ [] → taken stream ≡ 0
     → SoFar tells start start stream [] []
 nothing_yet tells start stream holds empty none = record {
   each = tt;
@@ -528,31 +712,54 @@ nothing_yet tells start stream holds empty none = record {
   made = λ t. ([], sym (append-nil start.written), refl);
   ticks = λ t. refl;
   stands = λ t. ([], record { legal = tt; state = refl }, holds t);
-  counts = record { faults = counted_exactly start.site.faults 0 start.site.faults (omega arith); views = counted_exactly start.site.views 0 start.site.views (omega arith) };
+  counts = record {
+    faults = counted_exactly start.site.faults 0 start.site.faults (omega arith);
+    views = counted_exactly start.site.views 0 start.site.views (omega arith);
+  };
   sink = omega arith;
 }
 
 -- what a reader's rest says of what is left
-pub left_none : (P : Type 0) (Q : ℕ → Type 0) (o : Option ℕ) (b : Bool) → MatchOption o P Q → is_some o ≡ not b → b ≡ true → P
+pub left_none : (P : Type 0) (Q : ℕ → Type 0) (o : Option ℕ) (b : Bool) → MatchOption o P Q
+    → is_some o ≡ not b → b ≡ true → P
 left_none P Q None b h same is = h
 left_none P Q (Some n) b h same is = let wrong : true ≡ false = same ∙ ap not is in absurd (cc wrong)
 
-pub left_some : (P : Type 0) (Q : ℕ → Type 0) (o : Option ℕ) (b : Bool) → MatchOption o P Q → is_some o ≡ not b → b ≡ false → (n : ℕ) × Q n
+pub left_some : (P : Type 0) (Q : ℕ → Type 0) (o : Option ℕ) (b : Bool) → MatchOption o P Q
+    → is_some o ≡ not b → b ≡ false → (n : ℕ) × Q n
 left_some P Q None b h same is = let wrong : false ≡ true = same ∙ ap not is in absurd (cc wrong)
 left_some P Q (Some n) b h same is = (n, h)
 
-pub bad_turn : (r : Option Status) (dt st kt ct : Bool) (site : Site) (whole : List ℕ) (took : ℕ) (written : List ℕ) (faults : ℕ) (gathered later : List ℕ) (faults_later : ℕ) (stream after : Stream) (left : List ℕ)
+pub bad_turn : (r : Option Status) (dt st kt ct : Bool) (site : Site) (whole : List ℕ) (took : ℕ)
+    (written : List ℕ) (faults : ℕ) (gathered later : List ℕ) (faults_later : ℕ)
+    (stream after : Stream) (left : List ℕ)
     → IsBad stream.rest → StopsAtBad r kt written faults gathered later faults_later
-    → Turns r (telling dt st kt ct) (scene_of site whole took written faults) stream gathered (scene_of site whole took later faults_later) after left
-bad_turn r dt st kt ct site whole took written faults gathered later faults_later stream after left never (inl (is, wrote, rises)) =
-    subst (λ (o : Option Status). Turns o (telling dt st kt ct) (scene_of site whole took written faults) stream gathered (scene_of site whole took later faults_later) after left) (sym is)
-    (stops_at_bad dt st kt ct site whole took written faults gathered later faults_later stream after left never wrote rises)
-bad_turn r dt st kt ct site whole took written faults gathered later faults_later stream after left never (inr (is, failed, rises)) =
-    subst (λ (o : Option Status). Turns o (telling dt st kt ct) (scene_of site whole took written faults) stream gathered (scene_of site whole took later faults_later) after left) (sym is)
+    → Turns r (telling dt st kt ct) (scene_of site whole took written faults) stream gathered
+    (scene_of site whole took later faults_later) after left
+bad_turn r dt st kt ct site whole took written faults gathered later faults_later stream after left
+    never (inl (is, wrote, rises)) =
+    subst (λ (o : Option Status). Turns o (telling dt st kt ct)
+    (scene_of site whole took written faults) stream gathered
+    (scene_of site whole took later faults_later) after left) (sym is)
+    (stops_at_bad dt st kt ct site whole took written faults gathered later faults_later stream after
+    left never wrote rises)
+bad_turn r dt st kt ct site whole took written faults gathered later faults_later stream after left
+    never (inr (is, failed, rises)) =
+    subst (λ (o : Option Status). Turns o (telling dt st kt ct)
+    (scene_of site whole took written faults) stream gathered
+    (scene_of site whole took later faults_later) after left) (sym is)
     (reads_no_more dt st kt ct site whole took written faults gathered later faults_later stream after left failed)
 
 -- each turn leaves less to be done
-pub fewer_asked : (request : Request) (old new : Stream) → StandsIn old.rest request new.rest → new.offset ≡ old.offset + length (request_text request) → taken old ≤ most_taken
+pub fewer_asked : (request : Request) (old new : Stream) → StandsIn old.rest request new.rest
+    → new.offset ≡ old.offset + length (request_text request) → taken old ≤ most_taken
     → work_left new < work_left old
 fewer_asked request old new stands offset within =
-    omega (arith, offset, ap length stands.whole, length-append (request_text request) new.rest, some_text request, within)
+    omega (
+      arith,
+      offset,
+      ap length stands.whole,
+      length-append (request_text request) new.rest,
+      some_text request,
+      within,
+    )

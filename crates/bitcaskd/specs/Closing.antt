@@ -12,6 +12,7 @@ IsSyncedAt status = (status ≡ Done) ⊎ (status ≡ NotBuilt)
 
 -- the status after the sync, and whether the disk failed in it
 abbrev pub ClosesBy : Bool → Status → Status → Told → ℕ → ℕ → Type 0
-ClosesBy tells Done status t before now = ((status ≡ Done) × (IsTrue tells → IsSynced t)) ⊎ ((status ≡ Disk) × Rose before now)
+ClosesBy tells Done status t before now = ((status ≡ Done) × (IsTrue tells → IsSynced t))
+    ⊎ ((status ≡ Disk) × Rose before now)
 ClosesBy tells NotBuilt status t before now = (status ≡ NotBuilt) × ((IsTrue tells → IsSynced t) ⊎ Rose before now)
 ClosesBy tells other status t before now = (status ≡ other) × (now ≡ before)

@@ -59,7 +59,8 @@ most_taken = LONGEST_SESSION
 
 -- what was read is the requests, and behind them at most a first part of one more
 abbrev pub ReadsAll : List ℕ → List ℕ → Transcript → Type 0
-ReadsAll input left talk = (part : List ℕ) × (input ≡ (requests_of (all_exchanges talk) ++ part) ++ left) × IsPartial part
+ReadsAll input left talk =
+    (part : List ℕ) × (input ≡ (requests_of (all_exchanges talk) ++ part) ++ left) × IsPartial part
 
 -- Of the input, `left` wasn't read. Done: the input is exactly the requests. NotBuilt: behind them it
 -- isn't empty, and no request stands there. Source and Long: each request that was read whole is among
@@ -129,7 +130,7 @@ IsBuilt status = ⊥
 abbrev pub all_steps : Transcript → List Step → List Step
 all_steps talk closing = steps_of (all_exchanges talk) ++ closing
 
--- Only a run that was refused, by the disk or for out of memory, has a request that got no reply.
+-- Only where the disk refused a call, or memory ran out, may a request have no reply.
 abbrev pub IsServed : Status → Transcript → Type 0
 IsServed Memory talk = Unit {0}
 IsServed Disk talk = Unit {0}
@@ -159,7 +160,8 @@ pub record Runs (tells : Telling) (old new : Outside) (status : Status) : Type 0
   pub served : IsServed status talk
   pub whole : IsTrue tells.source → new.whole ≡ old.whole
   pub reads : IsTrue tells.source → Reads status (drop old.taken old.whole) (drop new.taken new.whole) talk
-  pub writes : IsTrue tells.sink → (out : List ℕ) × (new.written ≡ old.written ++ out) × Writes status old.sink_faults new.sink_faults out (replies_of talk.served)
+  pub writes : IsTrue tells.sink → (out : List ℕ) × (new.written ≡ old.written ++ out)
+      × Writes status old.sink_faults new.sink_faults out (replies_of talk.served)
   pub ticks : IsTrue tells.clock → Ticks (moments_of (all_exchanges talk)) old.moments new.moments
   pub closes : Closes tells.disk new.told status closing
   pub most : TakesMost status tells.source old.taken new.taken
@@ -176,7 +178,8 @@ IsPipe words = (dir : List ℕ) × (words ≡ codes "pipe" ∷ dir ∷ []) × (0
 
 -- The run ended before it read anything: a file of a store was there, or the listing was refused.
 pub record Refuses (tells : Telling) (old new : Outside) (status : Status) : Type 0 where
-  pub cause : ((status ≡ NotBuilt) × (IsTrue tells.disk → old.told.image ≢ [])) ⊎ (((status ≡ Disk) × Rose old.faults new.faults) ⊎ (status ≡ Memory))
+  pub cause : ((status ≡ NotBuilt) × (IsTrue tells.disk → old.told.image ≢ []))
+      ⊎ (((status ≡ Disk) × Rose old.faults new.faults) ⊎ (status ≡ Memory))
   pub told : IsTrue tells.disk → new.told ≡ old.told
   pub taken : new.taken ≡ old.taken
   pub written : new.written ≡ old.written

@@ -53,7 +53,8 @@ pub record Leads (log : List Write) (step : Step) (later : List Write) : Type 0 
 -- after the step the store stands for the longer log
 abbrev pub GoesOn : Site → Site → Step → Type 0
 GoesOn old new step =
-    (log : List Write) → Holds old.told old.catalog old.index log → (later : List Write) × Leads log step later × Holds new.told new.catalog new.index later
+    (log : List Write) → Holds old.told old.catalog old.index log → (later : List Write)
+    × Leads log step later × Holds new.told new.catalog new.index later
 
 -- after the step the files hold the longer log, and a first part of what was tried
 abbrev pub Leaves : Site → Site → Step → Type 0
@@ -79,13 +80,15 @@ pub record Served (disk_tells clock_tells : Bool) (request : Request) (reply : R
 pub record Refused (disk_tells clock_tells : Bool) (request : Request) (old new : Site) : Type 0 where
   pub now : Moment
   pub step : Step
-  pub made : (named 0 (step ∷ []) ≡ []) ⊎ ((e : Entry) × (named 0 (step ∷ []) ≡ e ∷ []) × (e.call ≡ call_of request now))
+  pub made : (named 0 (step ∷ []) ≡ [])
+      ⊎ ((e : Entry) × (named 0 (step ∷ []) ≡ e ∷ []) × (e.call ≡ call_of request now))
   pub ticks : IsTrue clock_tells → Ticks (now ∷ []) old.moments new.moments
   pub leaves : IsTrue disk_tells → Leaves old new step
   pub counts : CountsOn old new step
 
 -- The request was served, and its reply stands behind the replies before it.
-pub record Answered (disk_tells clock_tells : Bool) (request : Request) (old new : Site) (before now : List ℕ) : Type 0 where
+pub record Answered (disk_tells clock_tells : Bool) (request : Request) (old new : Site)
+    (before now : List ℕ) : Type 0 where
   pub reply : Reply
   pub served : Served disk_tells clock_tells request reply old new
   pub written : now ≡ before ++ reply_text reply

@@ -56,7 +56,8 @@ StandsAfter site steps = (log : List Write) × LeadTo steps log × Holds site.to
 
 -- the files hold the log of the steps, and a first part of what was tried
 abbrev pub LeftAfter : Site → List Step → Type 0
-LeftAfter site steps = (log tried : List Write) × LeadTo steps log × (length tried ≤ 1) × IsImageOf site.told.image log tried
+LeftAfter site steps = (log tried : List Write) × LeadTo steps log × (length tried ≤ 1)
+    × IsImageOf site.told.image log tried
 
 -- the counts of faults and of fallible views went on over the steps
 pub record CountedOver (old new : Site) (steps : List Step) : Type 0 where
@@ -65,12 +66,15 @@ pub record CountedOver (old new : Site) (steps : List Step) : Type 0 where
 
 -- Between two requests: these turns were served, the reader holds what was taken behind their
 -- requests, and what was written and gathered are their replies.
-pub record SoFar (tells : Telling) (start now : Scene) (stream : Stream) (gathered : List ℕ) (served : List Exchange) : Type 0 where
+pub record SoFar (tells : Telling) (start now : Scene) (stream : Stream) (gathered : List ℕ)
+    (served : List Exchange) : Type 0 where
   pub each : AllByRecursion (IsExchange 0) served
   pub whole : IsTrue tells.source → now.whole ≡ start.whole
-  pub read : IsTrue tells.source → drop start.taken start.whole ≡ (requests_of served ++ stream.rest) ++ drop now.taken now.whole
+  pub read : IsTrue tells.source
+      → drop start.taken start.whole ≡ (requests_of served ++ stream.rest) ++ drop now.taken now.whole
   pub taken : IsTrue tells.source → now.taken ≡ start.taken + taken stream
-  pub made : IsTrue tells.sink → (out : List ℕ) × (now.written ≡ start.written ++ out) × (out ++ gathered ≡ replies_of served)
+  pub made : IsTrue tells.sink → (out : List ℕ) × (now.written ≡ start.written ++ out)
+      × (out ++ gathered ≡ replies_of served)
   pub ticks : IsTrue tells.clock → Ticks (moments_of served) start.site.moments now.site.moments
   pub stands : IsTrue tells.disk → StandsAfter now.site (steps_of served)
   pub counts : CountedOver start.site now.site (steps_of served)
@@ -89,7 +93,8 @@ pub record Stopped (tells : Telling) (start now : Scene) (status : Status) : Typ
   pub served : IsServed status talk
   pub whole : IsTrue tells.source → now.whole ≡ start.whole
   pub reads : IsTrue tells.source → Reads status (drop start.taken start.whole) (drop now.taken now.whole) talk
-  pub writes : IsTrue tells.sink → (out : List ℕ) × (now.written ≡ start.written ++ out) × Writes status start.sink_faults now.sink_faults out (replies_of talk.served)
+  pub writes : IsTrue tells.sink → (out : List ℕ) × (now.written ≡ start.written ++ out)
+      × Writes status start.sink_faults now.sink_faults out (replies_of talk.served)
   pub ticks : IsTrue tells.clock → Ticks (moments_of (all_exchanges talk)) start.site.moments now.site.moments
   pub most : TakesMost status tells.source start.taken now.taken
   pub ends : IsTrue tells.disk → EndsAt status now.site (steps_of (all_exchanges talk))
@@ -119,14 +124,18 @@ pub record TakesPiece (tells : Bool) (old new : Inlet) (piece : List ℕ) : Type
 abbrev pub Gives : Input → Bool → Inlet → Inlet → Type 0
 Gives Taken tells old new = (piece : List ℕ) × TakesPiece tells old new piece
 Gives Ended tells old new =
-    (new.stream ≡ old.stream) × (taken old.stream < most_taken) × (IsTrue tells → (drop old.taken old.whole ≡ []) × (new.taken ≡ old.taken))
-Gives took_most tells old new = (new.stream ≡ old.stream) × (taken old.stream ≡ most_taken) × (IsTrue tells → new.taken ≡ old.taken)
-Gives Failed tells old new = (new.stream ≡ old.stream) × Rose old.faults new.faults × (IsTrue tells → new.taken ≡ old.taken)
+    (new.stream ≡ old.stream) × (taken old.stream < most_taken)
+    × (IsTrue tells → (drop old.taken old.whole ≡ []) × (new.taken ≡ old.taken))
+Gives took_most tells old new = (new.stream ≡ old.stream) × (taken old.stream ≡ most_taken)
+    × (IsTrue tells → new.taken ≡ old.taken)
+Gives Failed tells old new = (new.stream ≡ old.stream) × Rose old.faults new.faults
+    × (IsTrue tells → new.taken ≡ old.taken)
 Gives no_memory tells old new = new.stream ≡ old.stream
 
 -- a scene from what the objects show
 abbrev pub scene_of : Site → List ℕ → ℕ → List ℕ → ℕ → Scene
-scene_of site whole taken written sink_faults = record { site = site; whole = whole; taken = taken; written = written; sink_faults = sink_faults }
+scene_of site whole taken written sink_faults =
+    record { site = site; whole = whole; taken = taken; written = written; sink_faults = sink_faults }
 
 -- wherever the run had come from, it has come further
 abbrev pub ComesOn : Telling → Scene → Stream → List ℕ → Scene → Stream → List ℕ → Type 0
@@ -137,7 +146,8 @@ ComesOn tells old stream gathered new later more =
 -- wherever the run had come from, it has ended so
 abbrev pub ComesToEnd : Telling → Scene → Stream → List ℕ → Scene → Status → Type 0
 ComesToEnd tells old stream gathered new status =
-    (start : Scene) (served : List Exchange) → SoFar tells start old stream gathered served → Stopped tells start new status
+    (start : Scene) (served : List Exchange) → SoFar tells start old stream gathered served
+    → Stopped tells start new status
 
 -- How a turn of the run went: it goes on, or it has ended with a status.
 abbrev pub Turns : Option Status → Telling → Scene → Stream → List ℕ → Scene → Stream → List ℕ → Type 0
@@ -145,24 +155,31 @@ Turns None tells old stream gathered new later more = ComesOn tells old stream g
 Turns (Some status) tells old stream gathered new later more = ComesToEnd tells old stream gathered new status
 
 -- what asking for one request does, whatever the stream was that it was read from
-abbrev pub Asks : Option Status → Bool → Bool → Bool → Request → Site → List ℕ → ℕ → List ℕ → Site → List ℕ → ℕ → List ℕ → Type 0
-Asks result disk_tells sink_tells clock_tells request old written faults gathered new written_later faults_later gathered_later =
-    (source_tells : Bool) (whole : List ℕ) (took : ℕ) (before after : Stream) → StandsIn before.rest request after.rest → taken before ≡ taken after
+abbrev pub Asks : Option Status → Bool → Bool → Bool → Request → Site → List ℕ → ℕ → List ℕ → Site
+    → List ℕ → ℕ → List ℕ → Type 0
+Asks result disk_tells sink_tells clock_tells request old written faults gathered new written_later
+    faults_later gathered_later =
+    (source_tells : Bool) (whole : List ℕ) (took : ℕ) (before after : Stream)
+    → StandsIn before.rest request after.rest → taken before ≡ taken after
     → Turns result (telling disk_tells source_tells sink_tells clock_tells)
-    (scene_of old whole took written faults) before gathered (scene_of new whole took written_later faults_later) after gathered_later
+    (scene_of old whole took written faults) before gathered
+    (scene_of new whole took written_later faults_later) after gathered_later
 
 -- a first part of what was gathered went to the sink
 abbrev pub MovesOut : Bool → List ℕ → List ℕ → List ℕ → List ℕ → Type 0
-MovesOut tells before gathered now left = IsTrue tells → (part : List ℕ) × (now ≡ before ++ part) × (gathered ≡ part ++ left)
+MovesOut tells before gathered now left = IsTrue tells → (part : List ℕ) × (now ≡ before ++ part)
+    × (gathered ≡ part ++ left)
 
 -- the sink failed and took a first part of what was gathered
 abbrev pub FailsOut : Bool → List ℕ → List ℕ → List ℕ → ℕ → ℕ → Type 0
-FailsOut tells before gathered now faults_before faults_now = (IsTrue tells → LeftOver before now gathered) × Rose faults_before faults_now
+FailsOut tells before gathered now faults_before faults_now =
+    (IsTrue tells → LeftOver before now gathered) × Rose faults_before faults_now
 
 -- the run goes on with what is left, or ends by its sink
 abbrev pub WritesSome : Option Status → Bool → List ℕ → ℕ → List ℕ → List ℕ → ℕ → List ℕ → Type 0
 WritesSome None tells before faults_before gathered now faults_now left = MovesOut tells before gathered now left
-WritesSome (Some status) tells before faults_before gathered now faults_now left = (status ≡ Sink) × FailsOut tells before gathered now faults_before faults_now
+WritesSome (Some status) tells before faults_before gathered now faults_now left =
+    (status ≡ Sink) × FailsOut tells before gathered now faults_before faults_now
 
 -- the status of a run that ends by a refusal
 abbrev pub status_of : Refusal → Status
@@ -172,7 +189,8 @@ status_of refused_disk = Disk
 -- the replies were written, or the sink failed and took a first part of them
 abbrev pub Flushed : Bool → List ℕ → List ℕ → List ℕ → ℕ → ℕ → Type 0
 Flushed tells before now replies faults_before faults_now =
-    (IsTrue tells → Wrote before now replies) ⊎ ((IsTrue tells → LeftOver before now replies) × Rose faults_before faults_now)
+    (IsTrue tells → Wrote before now replies)
+    ⊎ ((IsTrue tells → LeftOver before now replies) × Rose faults_before faults_now)
 
 -- what a run does after it asked for more input
 abbrev pub after_input : Input → Bool → Option Status
@@ -187,7 +205,8 @@ after_input no_memory nothing_left = Some Memory
 abbrev pub StopsAtBad : Option Status → Bool → List ℕ → ℕ → List ℕ → List ℕ → ℕ → Type 0
 StopsAtBad result tells before faults_before gathered now faults_now =
     ((result ≡ Some NotBuilt) × (IsTrue tells → Wrote before now gathered) × (faults_before ≤ faults_now))
-    ⊎ ((result ≡ Some Sink) × FailsOut tells before gathered now faults_before faults_now × (faults_before ≤ faults_now))
+    ⊎ ((result ≡ Some Sink) × FailsOut tells before gathered now faults_before faults_now
+    × (faults_before ≤ faults_now))
 
 -- the store's numbers are no larger than what was read allows, and there is room for a piece
 pub record IsReady (c : Known) (x : Index) (stream : Stream) (piece : List ℕ) : Type 0 where

@@ -18,7 +18,8 @@ goes_on before n middle k now (inr h) (inl f) = inr (omega arith)
 goes_on before n middle k now (inr h) (inr i) = inr i
 
 -- two stretches, one after the other
-pub counted_on : (a b : Bool) (before n middle k now : ℕ) → Counted a before n middle → Counted b middle k now → Counted (a || b) before (n + k) now
+pub counted_on : (a b : Bool) (before n middle k now : ℕ) → Counted a before n middle
+    → Counted b middle k now → Counted (a || b) before (n + k) now
 counted_on a b before n middle k now first then = record {
   goes = goes_on before n middle k now first.goes then.goes;
   some = some a b first.some then.some;

@@ -31,7 +31,8 @@ cut_frame n m len old new other b = record {
   front = ap (λ (t : Table Front). at t m) b.fronts;
 }
 
-pub made_frame : (n m : Name) (is_lent : Bool) (old new : Told) → same m n ≡ false → Made n is_lent old new → SameAt m old new
+pub made_frame : (n m : Name) (is_lent : Bool) (old new : Told) → same m n ≡ false
+    → Made n is_lent old new → SameAt m old new
 made_frame n m is_lent old new other b = record {
   image = ap (λ (t : Image). at t m) b.image ∙ at-with_name_other n m _ old.image other;
   front = ap (λ (t : Table Front). at t m) b.fronts ∙ at-with_name_other n m _ old.fronts other;

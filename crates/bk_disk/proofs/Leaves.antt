@@ -21,12 +21,14 @@ names-left_by (f ∷ fs) [] h = absurd h
 names-left_by (f ∷ fs) (e ∷ es) h = ap (λ n. n ∷ names fs) h.0 ∙ ap (λ ns. e.0 ∷ ns) (names-left_by fs es h.2)
 
 -- a file is there exactly where it was
-pub left_there : (n : Name) (fronts : Table Front) (image : Image) → MayLeave fronts image → is_some (at image n) ≡ is_some (at fronts n)
+pub left_there : (n : Name) (fronts : Table Front) (image : Image) → MayLeave fronts image
+    → is_some (at image n) ≡ is_some (at fronts n)
 left_there n fronts image h =
     is_some-at n image ∙ ap (λ ns. has ns n) (sym (names-left_by fronts image h)) ∙ sym (is_some-at n fronts)
 
 -- and has what its front allows
-pub left_at : (n : Name) (f : Front) (fronts : Table Front) (image : Image) → MayLeave fronts image → at fronts n ≡ Some f
+pub left_at : (n : Name) (f : Front) (fronts : Table Front) (image : Image) → MayLeave fronts image
+    → at fronts n ≡ Some f
     → (bytes : List ℕ) × (at image n ≡ Some bytes) × FileMayLeave f bytes
 left_at n f [] image h is = absurd (cc is)
 left_at n f (g ∷ fs) [] h is = absurd h
@@ -47,7 +49,8 @@ pub kept_whole : (f : Front) (bytes : List ℕ) → f.longest ≤ length f.synce
 kept_whole f bytes whole k = sym (take_all (length f.synced) bytes (omega (arith, whole, k.no_longer))) ∙ k.synced
 
 -- a file that is synced whole and not lent is left as it is
-pub left_whole : (n : Name) (f : Front) (fronts : Table Front) (image : Image) → MayLeave fronts image → at fronts n ≡ Some f
+pub left_whole : (n : Name) (f : Front) (fronts : Table Front) (image : Image) → MayLeave fronts image
+    → at fronts n ≡ Some f
     → f.lent ≡ false → f.longest ≤ length f.synced → at image n ≡ Some f.synced
 left_whole n f fronts image h is ours whole =
     let (bytes, there, left) = left_at n f fronts image h is in
@@ -66,7 +69,8 @@ pub whole_fronts-without : (n : Name) (image : Image) → whole_fronts (without 
 whole_fronts-without n [] = refl
 whole_fronts-without n (e ∷ es) = grind (arith, whole_fronts-without n es)
 
-pub whole_fronts-renamed : (from to : Name) (image : Image) → whole_fronts (renamed from to image) ≡ renamed from to (whole_fronts image)
+pub whole_fronts-renamed : (from to : Name) (image : Image)
+    → whole_fronts (renamed from to image) ≡ renamed from to (whole_fronts image)
 whole_fronts-renamed from to [] = refl
 whole_fronts-renamed from to (e ∷ es) = grind (arith, whole_fronts-renamed from to es)
 
@@ -74,14 +78,17 @@ whole_fronts-renamed from to (e ∷ es) = grind (arith, whole_fronts-renamed fro
 
 pub synced-removed : (n : Name) (old new : Told) → IsSynced old → Removed n old new → IsSynced new
 synced-removed n old new synced b =
-    b.fronts ∙ ap (λ (t : Table Front). without n t) synced ∙ sym (whole_fronts-without n old.image) ∙ ap whole_fronts (sym b.image)
+    b.fronts ∙ ap (λ (t : Table Front). without n t) synced ∙ sym (whole_fronts-without n old.image)
+    ∙ ap whole_fronts (sym b.image)
 
 pub synced-renamed : (from to : Name) (old new : Told) → IsSynced old → Renamed from to old new → IsSynced new
 synced-renamed from to old new synced b =
-    b.fronts ∙ ap (λ (t : Table Front). renamed from to t) synced ∙ sym (whole_fronts-renamed from to old.image) ∙ ap whole_fronts (sym b.image)
+    b.fronts ∙ ap (λ (t : Table Front). renamed from to t) synced
+    ∙ sym (whole_fronts-renamed from to old.image) ∙ ap whole_fronts (sym b.image)
 
 -- each name stands once in what a crash left
-pub well_left : (old new : Told) → IsTrue (is_well old) → MayLeave old.fronts new.image → IsSynced new → IsTrue (is_well new)
+pub well_left : (old new : Told) → IsTrue (is_well old) → MayLeave old.fronts new.image → IsSynced new
+    → IsTrue (is_well new)
 well_left old new test may synced =
     let w = from_test old test in
     to_test new (record {

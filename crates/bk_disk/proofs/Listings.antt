@@ -13,7 +13,8 @@ use Rattle.bk_disk.proofs.Tables.{at-not_in}
 abbrev pub IsFile : Image → Listed → Type 0
 IsFile image l = (bytes : List ℕ) × (at image l.name ≡ Some bytes) × (length bytes ≡ l.len)
 
-apart : (n m : Name) (image : Image) (bytes : List ℕ) → IsNotIn n (names image) → at image m ≡ Some bytes → same m n ≡ false
+apart : (n m : Name) (image : Image) (bytes : List ℕ) → IsNotIn n (names image)
+    → at image m ≡ Some bytes → same m n ≡ false
 apart n m image bytes none there =
     elim (cases_Bool (same m n)) [
       | inl p ↦ absurd (cc (sym there ∙ ap (λ (k : Name). at image k) (same_eq m n p) ∙ at-not_in n image none))
@@ -21,7 +22,8 @@ apart n m image bytes none there =
     ]
 
 -- an entry of the listing is a file of the image
-pub listed_there : (image : Image) (i : ℕ) (d : Listed) → IsOnce (names image) → i < length image → IsFile image (get_or (listing image) i d)
+pub listed_there : (image : Image) (i : ℕ) (d : Listed) → IsOnce (names image) → i < length image
+    → IsFile image (get_or (listing image) i d)
 listed_there [] i d once below = absurd (omega arith)
 listed_there (e ∷ es) zero d once below = (e.1, rw (same_refl e.0) refl, refl)
 listed_there (e ∷ es) (suc i) d once below =

@@ -15,7 +15,8 @@ pub started : (t : Told) (P : Table Front → Type 0) → P t.fronts → AtEach 
 started t P p k from to = subst P (sym (get_or_past t.past k t.fronts from)) p
 
 -- a change gives at most one moment more
-pub goes_on : (old new : Told) (from : ℕ) (P : Table Front → Type 0) → Passes old new → AtEach old from P → P new.fronts → AtEach new from P
+pub goes_on : (old new : Told) (from : ℕ) (P : Table Front → Type 0) → Passes old new
+    → AtEach old from P → P new.fronts → AtEach new from P
 goes_on old new from P (inl same) each p k low high =
     elim (cases_lt k (length old.past)) [
       | inl lt ↦ subst P (ap (λ past. get_or past k old.fronts) (sym same.0)
@@ -31,7 +32,8 @@ goes_on old new from P (inr more) each p k low high =
           (each k low (omega (arith, lt)))
       | inr ge ↦
           elim (cases_lt (length old.past) k) [
-            | inl past ↦ subst P (sym (get_or_past new.past k new.fronts (rw (more, length-append) (omega (arith, past))))) p
+            | inl past ↦ subst P
+                (sym (get_or_past new.past k new.fronts (rw (more, length-append) (omega (arith, past))))) p
             | inr le ↦
                 let is : length old.past ≡ k = omega (arith, ge, le) in
                 subst P (get_or_past old.past k old.fronts ge
@@ -48,7 +50,8 @@ later old new (inr more) = rw (more, length-append) (omega arith)
 pub AtEach-from : (t : Told) (from to : ℕ) (P : Table Front → Type 0) → from ≤ to → AtEach t from P → AtEach t to P
 AtEach-from t from to P le each k low high = each k (omega (arith, le, low)) high
 
-pub AtEach-map : (t : Told) (from : ℕ) (P Q : Table Front → Type 0) → ((fronts : Table Front) → P fronts → Q fronts) → AtEach t from P → AtEach t from Q
+pub AtEach-map : (t : Told) (from : ℕ) (P Q : Table Front → Type 0)
+    → ((fronts : Table Front) → P fronts → Q fronts) → AtEach t from P → AtEach t from Q
 AtEach-map t from P Q f each k low high = f (fronts_at t k) (each k low high)
 
 -- what holds of each image that each moment may leave holds of those that a crash since then may have left
@@ -66,7 +69,8 @@ pub begins : (t : Told) (P : Table Front → Type 0) → P t.fronts → SoFar t 
 begins t P p = record { began = omega arith; each = started t P p }
 
 -- a change that was made
-pub comes_on : (old new : Told) (from : ℕ) (P : Table Front → Type 0) → Passes old new → P new.fronts → SoFar old from P → SoFar new from P
+pub comes_on : (old new : Told) (from : ℕ) (P : Table Front → Type 0) → Passes old new → P new.fronts
+    → SoFar old from P → SoFar new from P
 comes_on old new from P passes p so = record {
   began = omega (arith, so.began, later old new passes);
   each = goes_on old new from P passes so.each p;
@@ -88,7 +92,9 @@ leaves_synced [] [] h = refl
 leaves_synced [] (l ∷ ls) h = absurd h
 leaves_synced (e ∷ es) [] h = absurd h
 leaves_synced (e ∷ es) (l ∷ ls) h =
-    ap (λ n. (n, l.1) ∷ ls) (sym h.0) ∙ ap (λ bytes. (e.0, bytes) ∷ ls) (kept_whole e.1 l.1 (h.1.keeps refl)) ∙ ap (λ t. e ∷ t) (leaves_synced es ls h.2)
+    ap (λ n. (n, l.1) ∷ ls) (sym h.0)
+    ∙ ap (λ bytes. (e.0, bytes) ∷ ls) (kept_whole e.1 l.1 (h.1.keeps refl))
+    ∙ ap (λ t. e ∷ t) (leaves_synced es ls h.2)
 
 pub synced_leaves : (t : Told) (left : Image) → IsSynced t → MayLeaveNow t left → left ≡ t.image
 synced_leaves t left synced h = leaves_synced t.image left (subst (λ fronts. MayLeave fronts left) synced h)

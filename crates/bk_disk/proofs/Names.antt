@@ -7,7 +7,10 @@ use Rattle.bk_disk.specs.Names.{same, kind_number}
 
 abbrev kind_of : ℕ → Kind
 kind_of n =
-    cond (n == 0) Main (cond (n == 1) MainTemp (cond (n == 2) Hint (cond (n == 3) HintTemp (cond (n == 4) Swap (cond (n == 5) SwapTemp Settings)))))
+    cond (n == 0) Main
+    (cond (n == 1) MainTemp
+    (cond (n == 2) Hint
+    (cond (n == 3) HintTemp (cond (n == 4) Swap (cond (n == 5) SwapTemp Settings)))))
 
 kind_of-kind_number : (k : Kind) → kind_of (kind_number k) ≡ k
 kind_of-kind_number Main = refl

@@ -14,7 +14,8 @@ pub at-changed : {X : Type 0} (n : Name) (f : X → X) (t : Table X) → at (cha
 at-changed n f [] = refl
 at-changed n f (e ∷ es) = grind (arith, at-changed n f es)
 
-pub at-changed_other : {X : Type 0} (n m : Name) (f : X → X) (t : Table X) → same m n ≡ false → at (changed n f t) m ≡ at t m
+pub at-changed_other : {X : Type 0} (n m : Name) (f : X → X) (t : Table X) → same m n ≡ false
+    → at (changed n f t) m ≡ at t m
 at-changed_other n m f [] h = refl
 at-changed_other n m f (e ∷ es) h = grind (arith, at-changed_other n m f es h, same_eq)
 
@@ -26,10 +27,12 @@ at-append_other : {X : Type 0} (n m : Name) (x : X) (t : Table X) → same m n �
 at-append_other n m x [] h = grind arith
 at-append_other n m x (e ∷ es) h = grind (arith, at-append_other n m x es h)
 
-pub at-with_name : {X : Type 0} (n : Name) (x : X) (t : Table X) → is_some (at t n) ≡ false → at (with_name n x t) n ≡ Some x
+pub at-with_name : {X : Type 0} (n : Name) (x : X) (t : Table X) → is_some (at t n) ≡ false
+    → at (with_name n x t) n ≡ Some x
 at-with_name n x t h = rw h (at-append n x t h)
 
-pub at-with_name_other : {X : Type 0} (n m : Name) (x : X) (t : Table X) → same m n ≡ false → at (with_name n x t) m ≡ at t m
+pub at-with_name_other : {X : Type 0} (n m : Name) (x : X) (t : Table X) → same m n ≡ false
+    → at (with_name n x t) m ≡ at t m
 at-with_name_other n m x t h = grind (arith, at-append_other n m x t h)
 
 pub is_some-with_name : {X : Type 0} (n : Name) (x : X) (t : Table X) → is_some (at (with_name n x t) n) ≡ true
@@ -47,11 +50,13 @@ pub at-without : {X : Type 0} (n : Name) (t : Table X) → IsOnce (names t) → 
 at-without n [] h = refl
 at-without n (e ∷ es) h = grind (arith, at-without n es h.1, at-not_in e.0 es h.0, same_eq n e.0)
 
-pub at-renamed_other : {X : Type 0} (from to n : Name) (t : Table X) → same n from ≡ false → same n to ≡ false → at (renamed from to t) n ≡ at t n
+pub at-renamed_other : {X : Type 0} (from to n : Name) (t : Table X) → same n from ≡ false
+    → same n to ≡ false → at (renamed from to t) n ≡ at t n
 at-renamed_other from to n [] h k = refl
 at-renamed_other from to n (e ∷ es) h k = grind (arith, at-renamed_other from to n es h k, same_eq from e.0)
 
-pub at-renamed : {X : Type 0} (from to : Name) (t : Table X) → is_some (at t from) ≡ true → is_some (at t to) ≡ false → at (renamed from to t) to ≡ at t from
+pub at-renamed : {X : Type 0} (from to : Name) (t : Table X) → is_some (at t from) ≡ true
+    → is_some (at t to) ≡ false → at (renamed from to t) to ≡ at t from
 at-renamed from to [] h k = untold h
 at-renamed from to (e ∷ es) h k = grind (arith, at-renamed from to es, same_refl to)
 
@@ -69,17 +74,20 @@ at-renamed_from from to (e ∷ es) once apart =
     ]
 
 -- a table without a name has what it had at the others
-pub at-fewer : {X : Type 0} (n m : Name) (x : X) (t : Table X) → IsOnce (names t) → at (without n t) m ≡ Some x → at t m ≡ Some x
+pub at-fewer : {X : Type 0} (n m : Name) (x : X) (t : Table X) → IsOnce (names t)
+    → at (without n t) m ≡ Some x → at t m ≡ Some x
 at-fewer n m x t once is =
     elim (cases_Bool (same m n)) [
       | inl p ↦
-          let none : at (without n t) m ≡ None = subst (λ (k : Name). at (without n t) k ≡ None) (sym (same_eq m n p)) (at-without n t once) in
+          let none : at (without n t) m ≡ None =
+          subst (λ (k : Name). at (without n t) k ≡ None) (sym (same_eq m n p)) (at-without n t once) in
           absurd (cc (sym is ∙ none))
       | inr p ↦ sym (at-without_other n m t p) ∙ is
     ]
 
 -- a removal and a renaming show: the table isn't what it was
-pub without-fewer : {X : Type 0} (n : Name) (t : Table X) → is_some (at t n) ≡ true → length (without n t) + 1 ≡ length t
+pub without-fewer : {X : Type 0} (n : Name) (t : Table X) → is_some (at t n) ≡ true
+    → length (without n t) + 1 ≡ length t
 without-fewer n [] h = absurd (true≢false (sym h))
 without-fewer n (e ∷ es) h = grind (arith, without-fewer n es)
 
@@ -89,7 +97,8 @@ without-differs n t there same = omega (arith, without-fewer n t there, ap lengt
 pub renamed-differs : {X : Type 0} (from to : Name) (t : Table X)
     → is_some (at t from) ≡ true → is_some (at t to) ≡ false → renamed from to t ≡ t → ⊥
 renamed-differs from to t there absent same =
-    true≢false (sym there ∙ ap is_some (sym (at-renamed from to t there absent)) ∙ ap (λ u. is_some (at u to)) same ∙ absent)
+    true≢false (sym there ∙ ap is_some (sym (at-renamed from to t there absent))
+    ∙ ap (λ u. is_some (at u to)) same ∙ absent)
 
 -- The names of a table, and that each stands once
 
@@ -119,14 +128,16 @@ names-append : {X : Type 0} (n : Name) (x : X) (t : Table X) → names (t ++ (n,
 names-append n x [] = refl
 names-append n x (e ∷ es) = ap (λ ns. e.0 ∷ ns) (names-append n x es)
 
-pub names-with_name : {X : Type 0} (n : Name) (x : X) (t : Table X) → names (with_name n x t) ≡ cond (has (names t) n) (names t) (names t ++ n ∷ [])
+pub names-with_name : {X : Type 0} (n : Name) (x : X) (t : Table X)
+    → names (with_name n x t) ≡ cond (has (names t) n) (names t) (names t ++ n ∷ [])
 names-with_name n x t = rw (← is_some-at n t) (grind (arith, names-append n x t))
 
 pub names-without : {X : Type 0} (n : Name) (t : Table X) → names (without n t) ≡ names_without n (names t)
 names-without n [] = refl
 names-without n (e ∷ es) = grind (arith, names-without n es)
 
-pub names-renamed : {X : Type 0} (from to : Name) (t : Table X) → names (renamed from to t) ≡ names_renamed from to (names t)
+pub names-renamed : {X : Type 0} (from to : Name) (t : Table X)
+    → names (renamed from to t) ≡ names_renamed from to (names t)
 names-renamed from to [] = refl
 names-renamed from to (e ∷ es) = grind (arith, names-renamed from to es)
 
@@ -141,7 +152,8 @@ IsNotIn-append n m (l ∷ ls) h k = (h.0, IsNotIn-append n m ls h.1 k)
 IsNotIn-has : (n : Name) (ms : List Name) → has ms n ≡ false → IsNotIn n ms
 IsNotIn-has n [] h = tt
 IsNotIn-has n (m ∷ ms) h =
-    elim (cases_Bool (same n m)) [ inl p ↦ absurd (grind (arith, p, h)) | inr p ↦ (p, IsNotIn-has n ms (grind (arith, p, h))) ]
+    elim (cases_Bool (same n m))
+    [ inl p ↦ absurd (grind (arith, p, h)) | inr p ↦ (p, IsNotIn-has n ms (grind (arith, p, h))) ]
 
 pub IsOnce-append : (n : Name) (ms : List Name) → has ms n ≡ false → IsOnce ms → IsOnce (ms ++ n ∷ [])
 IsOnce-append n [] h o = (tt, tt)
@@ -159,14 +171,17 @@ IsNotIn-without n m (l ∷ ls) h =
 pub IsOnce-without : (n : Name) (ms : List Name) → IsOnce ms → IsOnce (names_without n ms)
 IsOnce-without n [] o = tt
 IsOnce-without n (m ∷ ms) o =
-    elim (cases_Bool (same n m)) [ inl p ↦ rw p o.1 | inr p ↦ rw p (IsNotIn-without m n ms o.0, IsOnce-without n ms o.1) ]
+    elim (cases_Bool (same n m))
+    [ inl p ↦ rw p o.1 | inr p ↦ rw p (IsNotIn-without m n ms o.0, IsOnce-without n ms o.1) ]
 
-IsNotIn-renamed : (n from to : Name) (ms : List Name) → IsNotIn n ms → same n to ≡ false → IsNotIn n (names_renamed from to ms)
+IsNotIn-renamed : (n from to : Name) (ms : List Name) → IsNotIn n ms → same n to ≡ false
+    → IsNotIn n (names_renamed from to ms)
 IsNotIn-renamed n from to [] h k = tt
 IsNotIn-renamed n from to (l ∷ ls) h k =
     elim (cases_Bool (same from l)) [ inl p ↦ rw p (k, h.1) | inr p ↦ rw p (h.0, IsNotIn-renamed n from to ls h.1 k) ]
 
-pub IsOnce-renamed : (from to : Name) (ms : List Name) → has ms to ≡ false → IsOnce ms → IsOnce (names_renamed from to ms)
+pub IsOnce-renamed : (from to : Name) (ms : List Name) → has ms to ≡ false → IsOnce ms
+    → IsOnce (names_renamed from to ms)
 IsOnce-renamed from to [] h o = tt
 IsOnce-renamed from to (m ∷ ms) h o =
     elim (cases_Bool (same to m)) [

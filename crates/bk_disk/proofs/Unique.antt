@@ -10,7 +10,8 @@ use Rattle.bk_disk.specs.Well.{stands_in, are_once, are_same, is_well}
 not_in : (n : Name) (ms : List Name) → stands_in n ms ≡ false → IsNotIn n ms
 not_in n [] h = tt
 not_in n (m ∷ ms) h =
-    elim (cases_Bool (same n m)) [ inl p ↦ absurd (grind (arith, p, h)) | inr p ↦ (p, not_in n ms (grind (arith, p, h))) ]
+    elim (cases_Bool (same n m))
+    [ inl p ↦ absurd (grind (arith, p, h)) | inr p ↦ (p, not_in n ms (grind (arith, p, h))) ]
 
 in_none : (n : Name) (ms : List Name) → IsNotIn n ms → stands_in n ms ≡ false
 in_none n [] h = refl
@@ -19,7 +20,11 @@ in_none n (m ∷ ms) h = rw h.0 (in_none n ms h.1)
 once_from : (ns : List Name) → are_once ns ≡ true → IsOnce ns
 once_from [] h = tt
 once_from (n ∷ ns) h =
-    elim (cases_Bool (stands_in n ns)) [ inl p ↦ absurd (grind (arith, p, h)) | inr p ↦ (not_in n ns p, once_from ns (grind (arith, p, h))) ]
+    elim (cases_Bool (stands_in n ns)) [
+      | inl p ↦ absurd (grind (arith, p, h))
+      | inr p ↦
+          (not_in n ns p, once_from ns (grind (arith, p, h)))
+    ]
 
 once_to : (ns : List Name) → IsOnce ns → are_once ns ≡ true
 once_to [] h = refl
@@ -42,7 +47,10 @@ same_all (n ∷ ns) = rw (same_refl n) (same_all ns)
 pub from_test : (t : Told) → IsTrue (is_well t) → IsWell t
 from_test t h =
     elim (cases_Bool (are_once (names t.image))) [
-      | inl p ↦ record { once = once_from (names t.image) p; paired = same_from (names t.fronts) (names t.image) (grind (arith, p, h)) }
+      | inl p ↦ record {
+        once = once_from (names t.image) p;
+        paired = same_from (names t.fronts) (names t.image) (grind (arith, p, h));
+      }
       | inr p ↦ absurd (grind (arith, p, h))
     ]
 

@@ -20,7 +20,8 @@ pub record Becomes (edit : Image → Image) (step : Table Front → Table Front)
 
 -- bytes were handed to a file that then had this length
 abbrev pub pending_more : ℕ → List ℕ → Front → Front
-pending_more len bytes f = record { synced = f.synced; longest = max f.longest len; pending = f.pending ++ bytes; lent = f.lent }
+pending_more len bytes f =
+    record { synced = f.synced; longest = max f.longest len; pending = f.pending ++ bytes; lent = f.lent }
 
 -- these bytes are synced
 abbrev pub all_synced : List ℕ → Front → Front
@@ -37,7 +38,8 @@ brought_back bytes f = record { synced = bytes; longest = length bytes; pending 
 -- the first n bytes of a piece got through; all of it was handed
 abbrev pub Appended : Name → ℕ → List ℕ → Told → Told → Type 0
 Appended name n piece old new =
-    Becomes (changed name (λ b. b ++ take n piece)) (changed name (pending_more (length (bytes_of name old.image ++ take n piece)) piece)) old new
+    Becomes (changed name (λ b. b ++ take n piece))
+    (changed name (pending_more (length (bytes_of name old.image ++ take n piece)) piece)) old new
 
 abbrev pub Synced : Name → Told → Told → Type 0
 Synced name old new = Becomes (λ image. image) (changed name (all_synced (bytes_of name old.image))) old new

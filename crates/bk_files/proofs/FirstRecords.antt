@@ -10,9 +10,11 @@ use Rattle.bk_files.specs.Scan.{AreFirst}
 
 -- one more record behind the others
 pub records_of-more : (ws : List Write) (w : Write) → records_of (ws ++ w ∷ []) ≡ records_of ws ++ record_of w
-records_of-more ws w = flat_map-append record_of ws (w ∷ []) ∙ ap (λ (t : List ℕ). records_of ws ++ t) (append-nil (record_of w))
+records_of-more ws w = flat_map-append record_of ws (w ∷ [])
+    ∙ ap (λ (t : List ℕ). records_of ws ++ t) (append-nil (record_of w))
 
-pub all_fit : (ws : List Write) (w : Write) → AllByRecursion IsWritable ws → IsWritable w → AllByRecursion IsWritable (ws ++ w ∷ [])
+pub all_fit : (ws : List Write) (w : Write) → AllByRecursion IsWritable ws → IsWritable w
+    → AllByRecursion IsWritable (ws ++ w ∷ [])
 all_fit [] w fit is = (is, tt)
 all_fit (v ∷ ws) w fit is = (fit.0, all_fit ws w fit.1 is)
 
@@ -33,7 +35,8 @@ both_fit : (vs ws : List Write) → AllByRecursion IsWritable vs → AllByRecurs
 both_fit [] ws first second = second
 both_fit (v ∷ vs) ws first second = (first.0, both_fit vs ws first.1 second)
 
-pub first-go_on : (text : List ℕ) (at : ℕ) (vs : List Write) (place : ℕ) (mid : List ℕ) (ws : List Write) (end : ℕ) (rest : List ℕ)
+pub first-go_on : (text : List ℕ) (at : ℕ) (vs : List Write) (place : ℕ) (mid : List ℕ)
+    (ws : List Write) (end : ℕ) (rest : List ℕ)
     → AreFirst text at vs place mid → AreFirst mid place ws end rest → AreFirst text at (vs ++ ws) end rest
 first-go_on text at vs place mid ws end rest first second =
     let joined : records_of (vs ++ ws) ≡ records_of vs ++ records_of ws = flat_map-append record_of vs ws in
@@ -45,11 +48,13 @@ first-go_on text at vs place mid ws end rest first second =
       ends = omega (arith, first.ends, second.ends, ap length joined, length-append (records_of vs) (records_of ws));
     }
 
-pub first-all : (text : List ℕ) (at : ℕ) (ws : List Write) (end : ℕ) (rest : List ℕ) → AreFirst text at ws end rest → NoRecord rest
+pub first-all : (text : List ℕ) (at : ℕ) (ws : List Write) (end : ℕ) (rest : List ℕ)
+    → AreFirst text at ws end rest → NoRecord rest
     → AreRecords text ws
 first-all text at ws end rest first none =
     let behind = drop (length (records_of ws)) in
-    let left : behind text ≡ rest = ap behind first.whole ∙ drop_at (records_of ws) rest (length (records_of ws)) refl in
+    let left : behind text ≡ rest =
+    ap behind first.whole ∙ drop_at (records_of ws) rest (length (records_of ws)) refl in
     record {
       fit = first.fit;
       held = first.whole ∙ ap (λ (t : List ℕ). records_of ws ++ t) (sym left);

@@ -35,7 +35,8 @@ apart_below m n h = grind (arith, h)
 abbrev pub Untouched : Name → Told → Told → Type 0
 Untouched n t u = (at u.image n ≡ at t.image n) × (at u.fronts n ≡ at t.fronts n)
 
-pub untouched_appended : (n m : Name) (k : ℕ) (piece : List ℕ) (t u : Told) → Appended n k piece t u → same m n ≡ false → Untouched m t u
+pub untouched_appended : (n m : Name) (k : ℕ) (piece : List ℕ) (t u : Told) → Appended n k piece t u
+    → same m n ≡ false → Untouched m t u
 untouched_appended n m k piece t u b h = (
   ap (λ i. at i m) b.image ∙ at-changed_other n m (λ bytes. bytes ++ take k piece) t.image h,
   ap (λ fs. at fs m) b.fronts
@@ -76,7 +77,8 @@ at_rest_kept r t u x w = record {
   len = w.len ∙ ap length (sym (bytes_kept (main r.id.0) t u x));
 }
 
-pub rest_kept : (low high : ℕ) (rows : List Row) (t u : Told) → ((id : ℕ) → low ≤ id → id < high → Untouched (main id) t u)
+pub rest_kept : (low high : ℕ) (rows : List Row) (t u : Told)
+    → ((id : ℕ) → low ≤ id → id < high → Untouched (main id) t u)
     → AreAtRest low high rows t → AreAtRest low high rows u
 rest_kept low high [] t u x w = tt
 rest_kept low high (r ∷ rs) t u x w = (
@@ -93,7 +95,8 @@ scratch_kept t u r x w = record {
   total = w.total;
 }
 
-pub synced_kept : (t u : Told) (r : Row) → Untouched (main r.id.0) t u → IsRowSyncedIfSealed t r → IsRowSyncedIfSealed u r
+pub synced_kept : (t u : Told) (r : Row) → Untouched (main r.id.0) t u → IsRowSyncedIfSealed t r
+    → IsRowSyncedIfSealed u r
 synced_kept t u r x w =
     λ is. x.1 ∙ w is ∙ ap (λ (b : List ℕ). Some (front_of b)) (sym (bytes_kept (main r.id.0) t u x))
 
@@ -113,7 +116,8 @@ pub all_apart : (P : Row → Type 0) (xs : List Row) (y : Row) (ys : List Row) �
 all_apart P [] y ys all = (tt, all.0, all.1)
 all_apart P (x ∷ xs) y ys all = let rest = all_apart P xs y ys all.1 in ((all.0, rest.0), rest.1, rest.2)
 
-pub all_joined : (P : Row → Type 0) (xs : List Row) (y : Row) (ys : List Row) → AllByRecursion P xs → P y → AllByRecursion P ys
+pub all_joined : (P : Row → Type 0) (xs : List Row) (y : Row) (ys : List Row) → AllByRecursion P xs
+    → P y → AllByRecursion P ys
     → AllByRecursion P (xs ++ y ∷ ys)
 all_joined P [] y ys before here behind = (here, behind)
 all_joined P (x ∷ xs) y ys before here behind = (before.0, all_joined P xs y ys before.1 here behind)
@@ -121,7 +125,8 @@ all_joined P (x ∷ xs) y ys before here behind = (before.0, all_joined P xs y y
 -- The row of the active file
 
 no_record_in_nothing : NoRecord []
-no_record_in_nothing w rest stands = omega (arith, ap length stands.whole, length-append (record_of w) rest, length-record_of w)
+no_record_in_nothing w rest stands =
+    omega (arith, ap length stands.whole, length-append (record_of w) rest, length-record_of w)
 
 records_alone : (ws : List Write) → AllByRecursion IsWritable ws → AreRecords (records_of ws) ws
 records_alone ws fit =
@@ -134,10 +139,12 @@ records_alone ws fit =
     }
 
 -- its total is what a count from scratch gives
-pub active_from_scratch : (a : Active) (r : Row) (t : Told) → IsActive (main a.id.0) a t → IsActiveRow a r t → IsRowFromScratch t r
+pub active_from_scratch : (a : Active) (r : Row) (t : Told) → IsActive (main a.id.0) a t
+    → IsActiveRow a r t → IsRowFromScratch t r
 active_from_scratch a r t now s =
     let known : take r.len (bytes_of (main r.id.0) t.image) ≡ records_of s.writes =
-    ap (λ n. take n (bytes_of (main r.id.0) t.image)) s.len ∙ ap (λ id. take a.len (bytes_of (main id) t.image)) s.id ∙ s.known in
+    ap (λ n. take n (bytes_of (main r.id.0) t.image)) s.len
+    ∙ ap (λ id. take a.len (bytes_of (main id) t.image)) s.id ∙ s.known in
     record {
       writes = s.writes;
       records = subst (λ x. AreRecords x s.writes) (sym known) (records_alone s.writes s.fit);
@@ -196,14 +203,16 @@ length-edited_at f i [] = refl
 length-edited_at f zero (r ∷ rs) = refl
 length-edited_at f (suc i) (r ∷ rs) = ap suc (length-edited_at f i rs)
 
-pub sealed_at_rest : (a : Active) (r : Row) (t : Told) → IsActive (main a.id.0) a t → a.torn ≡ false → IsActiveRow a r t → IsAtRest (sealed r) t
+pub sealed_at_rest : (a : Active) (r : Row) (t : Told) → IsActive (main a.id.0) a t → a.torn ≡ false
+    → IsActiveRow a r t → IsAtRest (sealed r) t
 sealed_at_rest a r t now whole s = record {
   ours = subst (λ id. IsOurs (main id) t) (sym s.id) now.ours;
   state = λ is. absurd (cc is);
   len = s.len ∙ sym (now.known whole) ∙ ap (λ id. length (bytes_of (main id) t.image)) (sym s.id);
 }
 
-pub rest_joined : (low high id : ℕ) (before : List Row) (r : Row) (behind : List Row) (t : Told) → low ≤ id → id < high → r.id.0 ≡ id → IsAtRest r t
+pub rest_joined : (low high id : ℕ) (before : List Row) (r : Row) (behind : List Row) (t : Told)
+    → low ≤ id → id < high → r.id.0 ≡ id → IsAtRest r t
     → AreAtRest low id before t → AreAtRest (id + 1) high behind t → AreAtRest low high (before ++ r ∷ behind) t
 rest_joined low high id [] r behind t least below is row earlier later = (
   omega (arith, least, is),
@@ -218,9 +227,11 @@ rest_joined low high id (s ∷ ss) r behind t least below is row earlier later =
   rest_joined (s.id.0 + 1) high id ss r behind t (omega (arith, earlier.1)) below is row earlier.3 later,
 )
 
-pub rest_ended : (low high : ℕ) (rows : List Row) (t : Told) → AreAtRest low high rows t → (more : ℕ) → high ≤ more → AreAtRest low more rows t
+pub rest_ended : (low high : ℕ) (rows : List Row) (t : Told) → AreAtRest low high rows t → (more : ℕ)
+    → high ≤ more → AreAtRest low more rows t
 rest_ended low high [] t w more h = tt
-rest_ended low high (r ∷ rs) t w more h = (w.0, omega (arith, w.1, h), w.2, rest_ended (r.id.0 + 1) high rs t w.3 more h)
+rest_ended low high (r ∷ rs) t w more h =
+    (w.0, omega (arith, w.1, h), w.2, rest_ended (r.id.0 + 1) high rs t w.3 more h)
 
 -- Rows that differ in their counts alone
 
@@ -245,7 +256,8 @@ like_edited id live refs (r ∷ rs) =
       | inr p ↦ rw p ((r.live, r.refs, refl), like_edited id live refs rs)
     ]
 
-pub rest_like : (low high : ℕ) (rows qs : List Row) (t : Told) → AreLike rows qs → AreAtRest low high rows t → AreAtRest low high qs t
+pub rest_like : (low high : ℕ) (rows qs : List Row) (t : Told) → AreLike rows qs
+    → AreAtRest low high rows t → AreAtRest low high qs t
 rest_like low high [] [] t like w = tt
 rest_like low high [] (q ∷ qs) t like w = absurd like
 rest_like low high (r ∷ rs) [] t like w = absurd like
@@ -262,7 +274,8 @@ scratch_like [] [] t like all = tt
 scratch_like [] (q ∷ qs) t like all = absurd like
 scratch_like (r ∷ rs) [] t like all = absurd like
 scratch_like (r ∷ rs) (q ∷ qs) t like all = (
-  subst (λ x. IsRowFromScratch t x) (sym like.0.2) (record { writes = all.0.writes; records = all.0.records; total = all.0.total }),
+  subst (λ x. IsRowFromScratch t x) (sym like.0.2)
+      (record { writes = all.0.writes; records = all.0.records; total = all.0.total }),
   scratch_like rs qs t like.1 all.1,
 )
 
@@ -284,7 +297,8 @@ pub record LikeParts (before : List Row) (r : Row) (behind qs : List Row) : Type
   pub like : IsLike r row
   pub like_later : AreLike behind later
 
-pub like_parts : (before : List Row) (r : Row) (behind qs : List Row) → AreLike (before ++ r ∷ behind) qs → LikeParts before r behind qs
+pub like_parts : (before : List Row) (r : Row) (behind qs : List Row)
+    → AreLike (before ++ r ∷ behind) qs → LikeParts before r behind qs
 like_parts [] r behind [] like = absurd like
 like_parts [] r behind (q ∷ qs) like = record {
   earlier = [];

@@ -95,7 +95,8 @@ IsSyncedIfSealed s = AreSyncedIfSealed s.catalog.rows s.told
 abbrev pub RepairedOf : Option Active → Told → Told → Type 0
 RepairedOf None t u = u ≡ t
 RepairedOf (Some a) t u =
-    ((a.torn ≡ false) × (u ≡ t)) ⊎ ((a.torn ≡ true) × (m : Told) × Cut (main a.id.0) a.len t m × Synced (main a.id.0) m u)
+    ((a.torn ≡ false) × (u ≡ t))
+    ⊎ ((a.torn ≡ true) × (m : Told) × Cut (main a.id.0) a.len t m × Synced (main a.id.0) m u)
 
 -- a repair that was refused: the cut is done or not, and nothing is synced
 abbrev pub HalfRepairedOf : Option Active → Told → Told → Type 0

@@ -67,7 +67,8 @@ AreFromScratch rows t = AllByRecursion (λ r. IsRowFromScratch t r) rows
 
 -- where the file is sealed, it is synced whole
 abbrev pub IsRowSyncedIfSealed : Told → Row → Type 0
-IsRowSyncedIfSealed t r = r.state ≡ Sealed → at t.fronts (main r.id.0) ≡ Some (front_of (bytes_of (main r.id.0) t.image))
+IsRowSyncedIfSealed t r =
+    r.state ≡ Sealed → at t.fronts (main r.id.0) ≡ Some (front_of (bytes_of (main r.id.0) t.image))
 
 abbrev pub AreSyncedIfSealed : List Row → Told → Type 0
 AreSyncedIfSealed rows t = AllByRecursion (λ r. IsRowSyncedIfSealed t r) rows

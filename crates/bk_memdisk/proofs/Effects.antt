@@ -6,7 +6,8 @@ use Rattle.bk_memdisk.specs.declared.plans.Chosen.{Chosen}
 use Rattle.bk_memdisk.specs.Plans.{effect_of, or_else}
 use Rattle.bk_memdisk.specs.Chosen.{pairs_of}
 
-effect_of-append : (call : ℕ) (cs : List (ℕ × ℕ)) (c : ℕ × ℕ) → effect_of call (cs ++ c ∷ []) ≡ or_else (cond (c.0 == call) (Some c.1) None) (effect_of call cs)
+effect_of-append : (call : ℕ) (cs : List (ℕ × ℕ)) (c : ℕ × ℕ)
+    → effect_of call (cs ++ c ∷ []) ≡ or_else (cond (c.0 == call) (Some c.1) None) (effect_of call cs)
 effect_of-append call [] c = grind arith
 effect_of-append call (d ∷ ds) c = grind (arith, effect_of-append call ds c)
 
@@ -30,4 +31,5 @@ pub effect_of-other : (call : ℕ) (cs : List Chosen) (i : ℕ) (d : Chosen) →
 effect_of-other call cs i d lt other = effect_of-more call cs i d lt ∙ grind (arith, other)
 
 pub pairs_split : (n : ℕ) (cs : List Chosen) → pairs_of (take n cs) ++ pairs_of (drop n cs) ≡ pairs_of cs
-pairs_split n cs = sym (map-append (λ (x : Chosen). (x.call, x.effect)) (take n cs) (drop n cs)) ∙ ap pairs_of (take-append-drop n cs)
+pairs_split n cs = sym (map-append (λ (x : Chosen). (x.call, x.effect)) (take n cs) (drop n cs))
+    ∙ ap pairs_of (take-append-drop n cs)

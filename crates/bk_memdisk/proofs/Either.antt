@@ -18,7 +18,8 @@ still_either (Err e) P old new ok err f w = subst (λ (c : Contents). IsTrue (is
 new_place : {X : Type 0} (n : Name) (x : X) (t : Table X) → is_some (at t n) ≡ false → placed n x t ≡ with_name n x t
 new_place n x t p = rw p refl
 
-names-placed : {X : Type 0} (n : Name) (x : X) (t : Table X) → names (placed n x t) ≡ cond (has (names t) n) (names t) (names t ++ n ∷ [])
+names-placed : {X : Type 0} (n : Name) (x : X) (t : Table X)
+    → names (placed n x t) ≡ cond (has (names t) n) (names t) (names t ++ n ∷ [])
 names-placed n x t =
     elim (cases_Bool (is_some (at t n))) [
       | inl p ↦ rw (p, sym (is_some-at n t) ∙ p) (names-changed n (λ _. x) t)
@@ -34,5 +35,6 @@ well_placed n bytes old new b w = record {
   go true p = w.once
   go false p = IsOnce-append n (names old.image) p w.once
 
-pub still_placed : (n : Name) (bytes : List ℕ) (old new : Told) → Placed n bytes old new → IsTrue (is_well old) → IsTrue (is_well new)
+pub still_placed : (n : Name) (bytes : List ℕ) (old new : Told) → Placed n bytes old new
+    → IsTrue (is_well old) → IsTrue (is_well new)
 still_placed n bytes old new b w = to_test new (well_placed n bytes old new b (from_test old w))

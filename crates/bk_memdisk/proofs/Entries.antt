@@ -12,7 +12,8 @@ use Rattle.bk_memdisk.specs.declared.changes.Change.{Change}
 use Rattle.bk_memdisk.specs.Contents.{placed}
 use Rattle.bk_memdisk.specs.Journal.{Kept, after, after_all, fronts_of, fronts_before}
 
-pub after_all-append : (t : Table Kept) (cs : List Change) (c : Change) → after_all t (cs ++ c ∷ []) ≡ after (after_all t cs) c
+pub after_all-append : (t : Table Kept) (cs : List Change) (c : Change)
+    → after_all t (cs ++ c ∷ []) ≡ after (after_all t cs) c
 after_all-append t [] c = refl
 after_all-append t (d ∷ ds) c = after_all-append (after t d) ds c
 
@@ -46,13 +47,13 @@ becomes edit step old new cs ds c asked stray_views more image fronts = record {
 }
 
 -- no entry, since no crash can tell the change
-pub becomes_untold : (edit : Image → Image) (step : Table Front → Table Front) (old new : Image) (cs : List Change) (asked : List Listed) (stray_views : ℕ)
+pub becomes_untold : (edit : Image → Image) (step : Table Front → Table Front) (old new : Image)
+    (cs : List Change) (asked : List Listed) (stray_views : ℕ)
     → new ≡ edit old → fronts_of (after_all [] cs) ≡ step (fronts_of (after_all [] cs))
     → Becomes edit step (told_of old cs asked stray_views) (told_of new cs asked stray_views)
 becomes_untold edit step old new cs asked stray_views image fronts = record {
   passes = inl (refl, refl);
-  image =
-      image;
+  image = image;
   fronts = fronts;
   asked = refl;
   stray_views = refl;
@@ -82,15 +83,19 @@ fronts-changed n g step (e ∷ es) h =
       | inr p ↦ rw p (ap (λ fronts. (e.0, e.1.front) ∷ fronts) (fronts-changed n g step es (λ k is. h k (rw p is))))
     ]
 
-fronts_of-append : (n : Name) (k : Kept) (t : Table Kept) → fronts_of (t ++ (n, k) ∷ []) ≡ fronts_of t ++ (n, k.front) ∷ []
+fronts_of-append : (n : Name) (k : Kept) (t : Table Kept)
+    → fronts_of (t ++ (n, k) ∷ []) ≡ fronts_of t ++ (n, k.front) ∷ []
 fronts_of-append n k [] = refl
 fronts_of-append n k (e ∷ es) = ap (λ fronts. (e.0, e.1.front) ∷ fronts) (fronts_of-append n k es)
 
-pub fronts-with_name : (n : Name) (k : Kept) (t : Table Kept) → fronts_of (with_name n k t) ≡ with_name n k.front (fronts_of t)
+pub fronts-with_name : (n : Name) (k : Kept) (t : Table Kept)
+    → fronts_of (with_name n k t) ≡ with_name n k.front (fronts_of t)
 fronts-with_name n k t = rw is_some-fronts_of (grind (arith, fronts_of-append n k t))
 
 pub fronts-placed : (n : Name) (k : Kept) (t : Table Kept) → fronts_of (placed n k t) ≡ placed n k.front (fronts_of t)
-fronts-placed n k t = rw is_some-fronts_of (grind (arith, fronts_of-append n k t, fronts-changed n (λ _. k) (λ _. k.front) t (λ j is. refl)))
+fronts-placed n k t =
+    rw is_some-fronts_of
+    (grind (arith, fronts_of-append n k t, fronts-changed n (λ _. k) (λ _. k.front) t (λ j is. refl)))
 
 pub fronts-without : (n : Name) (t : Table Kept) → fronts_of (without n t) ≡ without n (fronts_of t)
 fronts-without n [] = refl

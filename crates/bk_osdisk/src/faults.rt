@@ -72,7 +72,7 @@ impl Faults {
         Failed
     }
 
-    /// Counts whatever went wrong, for a call that has no answer for out of memory.
+    /// Counts whatever went wrong, for a call that has no answer `Memory`.
     pub(crate) fn counted<T: Drop>(&mut self, done: Result<T, Trouble>) -> Result<T, Failed>
         ensures value { IfOk result (λ value. done ≡ Ok value) }
         ensures counted { self.new.count ≡ bumped (is_err result) self.old.count }
@@ -84,7 +84,7 @@ impl Faults {
         }
     }
 
-    /// Counts a fault, and passes out of memory on.
+    /// Counts a fault, and passes `Memory` on.
     pub(crate) fn told_apart<T: Drop>(&mut self, done: Result<T, Trouble>) -> Result<T, DiskError>
         ensures value { IfOk result (λ value. done ≡ Ok value) }
         ensures counted { self.new.count ≡ bumped (has_failed result) self.old.count }

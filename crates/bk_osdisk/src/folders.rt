@@ -263,7 +263,7 @@ fn is_listed(name: Name) -> bool
     }
 }
 
-/// Where the standard library allocates within a call, out of memory comes as its error.
+/// Where the standard library allocates within a call, a refused allocation comes as its error.
 fn trouble_of(error: io::Error) -> Trouble {
     if error.kind() == ErrorKind::OutOfMemory {
         Trouble::Memory

@@ -6,4 +6,5 @@ use Rattle.bench_crc.proofs.crc_of_rest.Given as goal
 abbrev pub invariant-loop : goal.invariant-loop
 invariant-loop g l =
     IfSome (g.R.Read.remaining l.fn.reader)
-    (λ bytes. IsSomeAnd (g.R.Read.remaining l.reader) (λ left. register_after l.crc left ≡ register_after start_register bytes))
+    (λ bytes. IsSomeAnd (g.R.Read.remaining l.reader)
+    (λ left. register_after l.crc left ≡ register_after start_register bytes))

@@ -6,7 +6,8 @@ use Rattle.bitcaskd.proofs.appending.append_text.Goals as goal
 
 pub returns-in_err-open_newest-clause-err : goal.returns-in_err-open_newest-clause-err
 returns-in_err-open_newest-clause-err g c = λ tells.
-    let left : LeavesPart c.args.files.now.told c.args.files.now.catalog c.open_newest.new.files.told.image c.args.text.now =
+    let left : LeavesPart c.args.files.now.told c.args.files.now.catalog
+    c.open_newest.new.files.told.image c.args.text.now =
     λ s h. left_any s _ _ (c.in_err-open_newest.ensures.err tells s h)
     in on_err _ left
 
@@ -29,5 +30,6 @@ returns-clause-grows g c = λ tells s h.
 
 pub returns-clause-written : goal.returns-clause-written
 returns-clause-written g c = λ tells s h.
-    written_open _ _ _ _ _ _ _ c.append.new.self.catalog (c.in_ok-open_newest.ensures.ok tells s h) c.in_ok-append.ensures.ok.active c.in_ok-append.ensures.place
+    written_open _ _ _ _ _ _ _ c.append.new.self.catalog (c.in_ok-open_newest.ensures.ok tells s h)
+    c.in_ok-append.ensures.ok.active c.in_ok-append.ensures.place
     (c.in_ok-append.ensures.appended tells)

@@ -12,7 +12,8 @@ pub returns-in-Ok-Some-clause-ok : goal.returns-in-Ok-Some-clause-ok
 returns-in-Ok-Some-clause-ok g c =
     rw c.in-Get.is
     (get-served _ _ c.in-Get.key c.now-now.result c.in-Ok-Some.field-0 (Value c.in-Ok-Some.value) _ _
-    (subst (λ (o : Option (List ℕ)). ShowsGet (answer_of o) (Value c.in-Ok-Some.value)) (sym c.in-Ok-Some.field-0-is) refl)
+    (subst (λ (o : Option (List ℕ)). ShowsGet (answer_of o) (Value c.in-Ok-Some.value))
+    (sym c.in-Ok-Some.field-0-is) refl)
     c.now-now.ensures.moment c.now-now.ensures.later c.in-Ok-Some.ensures.keeps
     c.in-Ok-Some.ensures.found c.in-Ok-Some.ensures.faults c.in-Ok-Some.ensures.views)
 
@@ -34,7 +35,8 @@ pub put-requires-clause-seq : goal.put-requires-clause-seq
 put-requires-clause-seq g c = omega (arith, c.requires.seq, some_text c.args.request)
 
 pub returns-in-Ok-clause-files : goal.returns-in-Ok-clause-files
-returns-in-Ok-clause-files g c = put-fits c.in-Put.key c.in-Put.value c.args.request _ _ c.in-Put.is c.in-Ok.ensures.fits
+returns-in-Ok-clause-files g c =
+    put-fits c.in-Put.key c.in-Put.value c.args.request _ _ c.in-Put.is c.in-Ok.ensures.fits
 
 pub returns-in-Ok-clause-last : goal.returns-in-Ok-clause-last
 returns-in-Ok-clause-last g c = omega (arith, c.in-Ok.ensures.last, some_text c.args.request)
@@ -48,5 +50,10 @@ returns-in-Ok-clause-ok g c =
 pub returns-clause-err : goal.returns-clause-err
 returns-clause-err g c =
     refused _ _ c.args.request c.now-now.result _ _ c.now-now.ensures.moment c.now-now.ensures.later
-    (λ tells log h. (put_of (next_of c.args.store.now.index) c.now-now.result c.in-Put.key c.in-Put.value ∷ [], omega arith, c.in-Err-put.ensures.err tells log h))
-    c.in-Err-put.ensures.later (0, record { goes = inl (omega (arith, c.in-Err-put.ensures.views)); some = λ h. untold h })
+    (λ tells log h. (
+      put_of (next_of c.args.store.now.index) c.now-now.result c.in-Put.key c.in-Put.value ∷ [],
+      omega arith,
+      c.in-Err-put.ensures.err tells log h,
+    ))
+    c.in-Err-put.ensures.later
+    (0, record { goes = inl (omega (arith, c.in-Err-put.ensures.views)); some = λ h. untold h })

@@ -9,7 +9,8 @@ pub returns-in_default-clause-stopped : goal.returns-in_default-clause-stopped
 returns-in_default-clause-stopped g c =
     let stream : Stream = record { rest = []; offset = 0; most = 0 } in
     memory_ends _ _ _ stream [] (g.K.Sink.written c.args.sink.now) (g.K.Sink.faults c.args.sink.now) []
-    (nothing_yet _ _ stream c.requires.holds refl (omega arith)) (inl (λ tells. sym (append-nil (g.K.Sink.written c.args.sink.now))))
+    (nothing_yet _ _ stream c.requires.holds refl (omega arith))
+    (inl (λ tells. sym (append-nil (g.K.Sink.written c.args.sink.now))))
 
 pub turns-init : goal.turns-init
 turns-init g c = record {
@@ -27,7 +28,9 @@ turns-init g c = record {
   so_far = (
     [],
     rw c.in-Ok.ensures.replies
-        (nothing_yet _ _ c.in-Ok.desk.reader c.requires.holds (ap (λ (s : Stream). s.rest) c.in-Ok.ensures.reader) (ap (λ (s : Stream). taken s) c.in-Ok.ensures.reader)),
+        (nothing_yet _ _ c.in-Ok.desk.reader c.requires.holds
+        (ap (λ (s : Stream). s.rest) c.in-Ok.ensures.reader)
+        (ap (λ (s : Stream). taken s) c.in-Ok.ensures.reader)),
   );
 }
 

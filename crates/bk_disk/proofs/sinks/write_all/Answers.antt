@@ -28,8 +28,11 @@ loop-at-preserved g c = record {
         length-take
             (length c.args.piece.now - c.loop-at.at) (drop c.loop-at.at c.args.piece.now),
       )))
-      ∙ ap (λ (l : List ℕ). l ++ take c.in_ok-at.field-0 (drop c.loop-at.at c.args.piece.now)) (c.loop-at.invariant.wrote tells)
-      ∙ append_assoc (g.K.Sink.written c.args.sink.now) (take c.loop-at.at c.args.piece.now) (take c.in_ok-at.field-0 (drop c.loop-at.at c.args.piece.now))
-      ∙ ap (λ (l : List ℕ). g.K.Sink.written c.args.sink.now ++ l) (sym (take-add c.loop-at.at c.in_ok-at.field-0 c.args.piece.now));
+      ∙ ap (λ (l : List ℕ). l ++ take c.in_ok-at.field-0 (drop c.loop-at.at c.args.piece.now))
+      (c.loop-at.invariant.wrote tells)
+      ∙ append_assoc (g.K.Sink.written c.args.sink.now) (take c.loop-at.at c.args.piece.now)
+      (take c.in_ok-at.field-0 (drop c.loop-at.at c.args.piece.now))
+      ∙ ap (λ (l : List ℕ). g.K.Sink.written c.args.sink.now ++ l)
+      (sym (take-add c.loop-at.at c.in_ok-at.field-0 c.args.piece.now));
   later = omega (arith, c.in_ok-at.ensures.cause.later, c.loop-at.invariant.later);
 }

@@ -4,7 +4,8 @@ use Rattle.bk_disk.proofs.Files.{made_ours, appended_ours, appended_whole, made_
 use Rattle.bk_disk.proofs.tests.store.Goals as goal
 
 pub ready-requires : goal.ready-requires
-ready-requires g c tells = made_ours _ _ _ (g.met.D.Disk.well _ tells) (c.requires tells) (c.in_ok-create.ensures.created tells)
+ready-requires g c tells =
+    made_ours _ _ _ (g.met.D.Disk.well _ tells) (c.requires tells) (c.in_ok-create.ensures.created tells)
 
 pub append-requires-clause-ours : goal.append-requires-clause-ours
 append-requires-clause-ours g c tells =

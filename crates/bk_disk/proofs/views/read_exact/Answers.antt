@@ -22,9 +22,11 @@ loop-at-preserved g c =
       bytes = λ tells. filled at k n c.loop-at.into c.read.new.into (g.V.View.left c.args.view.now)
           c.loop-at.invariant.within long few (c.loop-at.invariant.bytes tells)
           ((c.in_ok-at.ensures.bytes tells).bytes ∙ ap (λ (l : List ℕ). take n l) (c.loop-at.invariant.left tells));
-      left = λ tells. (c.in_ok-at.ensures.bytes tells).others ∙ ap (λ (l : List ℕ). drop n l) (c.loop-at.invariant.left tells)
+      left = λ tells. (c.in_ok-at.ensures.bytes tells).others
+          ∙ ap (λ (l : List ℕ). drop n l) (c.loop-at.invariant.left tells)
           ∙ drop-drop n at (g.V.View.left c.args.view.now);
       later = omega (arith, c.in_ok-at.ensures.cause.later, c.loop-at.invariant.later);
-      kept = λ strong. c.read.ensures.same_faults (c.loop-at.invariant.fallible ∙ strong) ∙ c.loop-at.invariant.kept strong;
+      kept = λ strong. c.read.ensures.same_faults (c.loop-at.invariant.fallible ∙ strong)
+          ∙ c.loop-at.invariant.kept strong;
       fallible = c.read.ensures.fallible ∙ c.loop-at.invariant.fallible;
     }

@@ -8,8 +8,10 @@ use Rattle.bk_memdisk.proofs.choices.left.Goals as goal
 pub loop-offset-init : goal.loop-offset-init
 loop-offset-init c =
     let start : c.in_ok-left.left.items ≡ take c.args.synced c.args.bytes.now = grind (arith, common_steps) in
-    let small : AreBytes c.args.bytes.now = λ i. omega (arith, c.type_inv.bytes i) in
-    (start ∙ sym (append-nil (take c.args.synced c.args.bytes.now)), subst AreBytes (sym start) (Left.bytes_take c.args.synced c.args.bytes.now small))
+    let small : AreBytes c.args.bytes.now = λ i. omega (arith, c.type_inv.bytes i) in (
+      start ∙ sym (append-nil (take c.args.synced c.args.bytes.now)),
+      subst AreBytes (sym start) (Left.bytes_take c.args.synced c.args.bytes.now small),
+    )
 
 pub loop-offset-preserved : goal.loop-offset-preserved
 loop-offset-preserved c =
@@ -21,5 +23,6 @@ loop-offset-preserved c =
           (take c.loop-offset.offset c.kept-part.result.now) ++ b ∷ []) byte
           ∙ sym (Left.left_more c.args.choice.now.flips.items (take c.args.synced c.args.bytes.now)
           c.kept-part.result.now c.loop-offset.offset 0 c.loop-offset-test.true),
-      subst AreBytes (sym c.in_ok-push.ensures.items) (Left.bytes_push c.loop-offset.left.items c.flip.result c.loop-offset.invariant.1 small),
+      subst AreBytes (sym c.in_ok-push.ensures.items)
+          (Left.bytes_push c.loop-offset.left.items c.flip.result c.loop-offset.invariant.1 small),
     )

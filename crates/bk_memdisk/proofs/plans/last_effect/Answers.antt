@@ -7,5 +7,6 @@ pub loop-choice-preserved : goal.loop-choice-preserved
 loop-choice-preserved c =
     elim c.if-choice-call.branch [
       | then-choice-call w ↦ w.effect-is ∙ sym (effect_of-this _ _ _ _ c.loop-choice-test.true w.if-choice-call.true)
-      | else-choice-call w ↦ w.effect-is ∙ c.loop-choice.invariant ∙ sym (effect_of-other _ _ _ _ c.loop-choice-test.true w.if-choice-call.false)
+      | else-choice-call w ↦ w.effect-is ∙ c.loop-choice.invariant
+          ∙ sym (effect_of-other _ _ _ _ c.loop-choice-test.true w.if-choice-call.false)
     ]

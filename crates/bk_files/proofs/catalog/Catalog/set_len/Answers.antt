@@ -10,4 +10,5 @@ returns-then-place-len-clause-rows c =
 
 pub returns-else-place-len-clause-rows : goal.returns-else-place-len-clause-rows
 returns-else-place-len-clause-rows c =
-    edited_at-past (with_len c.args.len) c.args.self.now.rows.items c.args.place (omega (arith, c.len.ensures, c.if-place-len.false))
+    edited_at-past (with_len c.args.len) c.args.self.now.rows.items c.args.place
+    (omega (arith, c.len.ensures, c.if-place-len.false))

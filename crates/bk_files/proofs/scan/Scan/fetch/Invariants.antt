@@ -4,7 +4,8 @@ use Rattle.bk_files.proofs.scan.Scan.fetch.Given as goal
 
 abbrev pub invariant-loop-size : goal.invariant-loop-size
 invariant-loop-size g l = record {
-  text : IsTrue g.V.View.tells → l.self.held ++ g.V.View.left l.view ≡ l.initial.self.held ++ g.V.View.left l.initial.view;
+  text : IsTrue g.V.View.tells
+      → l.self.held ++ g.V.View.left l.view ≡ l.initial.self.held ++ g.V.View.left l.initial.view;
   rest : g.V.View.rest l.view ≡ l.self.unread;
   told : IsTold g.V.View.tells (g.V.View.left l.initial.view) (g.V.View.rest l.initial.view)
       → IsTold g.V.View.tells (g.V.View.left l.view) (g.V.View.rest l.view);

@@ -6,8 +6,11 @@ use Rattle.bk_files.proofs.scan.Scan.give.Goals as goal
 
 pub returns-in_default-clause-found : goal.returns-in_default-clause-found
 returns-in_default-clause-found c = λ left len.
-    let none : NoRecord c.held.result.now = rw c.in_default.is at c.in_ok-decoded.ensures in
-    (none_stands c.args.self.now.held c.args.self.now.unread (subst NoRecord c.held.ensures none) c.requires left len, refl)
+    let none : NoRecord c.held.result.now = rw c.in_default.is at c.in_ok-decoded.ensures in (
+      none_stands c.args.self.now.held c.args.self.now.unread (subst NoRecord c.held.ensures none)
+          c.requires left len,
+      refl,
+    )
 
 pub take_off-at-requires : goal.take_off-at-requires
 take_off-at-requires c =

@@ -17,7 +17,9 @@ pub invariant_of-self : goal.invariant_of-self
 invariant_of-self c =
     let first = rw c.deref.ensures.value at c.place_of-index.ensures.first in
     let below = rw c.deref.ensures.value at c.place_of-index.ensures.below in
-    let within = Edits.owed_within c.self.inside.files.items c.place_of-index.result c.index_mut-file.result.now below c.index_mut-file.ensures.value in
+    let within =
+    Edits.owed_within c.self.inside.files.items c.place_of-index.result
+    c.index_mut-file.result.now below c.index_mut-file.ensures.value in
     record {
       tied = Edits.edited_tied c.args.name c.self.inside.files.items c.self.inside.journal.items
           c.push_reserved.new.self.items c.place_of-index.result c.index_mut-file.result.now

@@ -33,13 +33,16 @@ append-change-requires-clause-room c =
     let room = Edits.room_is c.args.name c.self.inside.files.items (after_all [] c.self.inside.journal.items)
     c.place_of-index.result c.index_mut-file.result.now c.self.invariant.tied first
     c.index_mut-file.ensures.value in
-    subst (λ r. length c.args.piece.now ≤ r) (ap (λ v. room_of v c.args.name) (sym c.self.view_is) ∙ room) c.requires.room
+    subst (λ r. length c.args.piece.now ≤ r) (ap (λ v. room_of v c.args.name) (sym c.self.view_is)
+    ∙ room) c.requires.room
 
 pub push_reserved-requires : goal.push_reserved-requires
 push_reserved-requires c =
     let first = rw c.deref.ensures.value at c.place_of-index.ensures.first in
     let below = rw c.deref.ensures.value at c.place_of-index.ensures.below in
-    let within = Edits.owed_within c.self.inside.files.items c.place_of-index.result c.index_mut-file.result.now below c.index_mut-file.ensures.value in
+    let within =
+    Edits.owed_within c.self.inside.files.items c.place_of-index.result
+    c.index_mut-file.result.now below c.index_mut-file.ensures.value in
     let room_here = subst (λ r. length c.args.piece.now ≤ r) (ap (λ v. room_of v c.args.name) (sym c.self.view_is)
     ∙ Edits.room_is c.args.name c.self.inside.files.items (after_all [] c.self.inside.journal.items)
     c.place_of-index.result c.index_mut-file.result.now c.self.invariant.tied first
@@ -52,7 +55,9 @@ pub invariant_of-self-2 : goal.invariant_of-self-2
 invariant_of-self-2 c =
     let first = rw c.deref.ensures.value at c.place_of-index.ensures.first in
     let below = rw c.deref.ensures.value at c.place_of-index.ensures.below in
-    let within = Edits.owed_within c.self.inside.files.items c.place_of-index.result c.index_mut-file.result.now below c.index_mut-file.ensures.value in
+    let within =
+    Edits.owed_within c.self.inside.files.items c.place_of-index.result
+    c.index_mut-file.result.now below c.index_mut-file.ensures.value in
     let room_here = subst (λ r. length c.args.piece.now ≤ r) (ap (λ v. room_of v c.args.name) (sym c.self.view_is)
     ∙ Edits.room_is c.args.name c.self.inside.files.items (after_all [] c.self.inside.journal.items)
     c.place_of-index.result c.index_mut-file.result.now c.self.invariant.tied first

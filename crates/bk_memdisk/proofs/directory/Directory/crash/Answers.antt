@@ -30,14 +30,19 @@ loop-file-preserved c =
     c.loop-file.file-index file once below is in
     let bytes = c.in_ok-bytes.bytes in
     let left = rw c.deref.ensures.value at c.in_ok-bytes.ensures.left in
-    let next = Left.placed_next file.name bytes.items c.loop-file.after.told c.place.new.self.told absent so_far.1 c.in_ok-place.ensures.ok in (
+    let next =
+    Left.placed_next file.name bytes.items c.loop-file.after.told c.place.new.self.told absent
+    so_far.1 c.in_ok-place.ensures.ok in (
       next.0
           ∙ ap (λ t. t ++ (file.name, bytes.items) ∷ []) so_far.0
           ∙ ap (λ b. Left.image_left c.args.choice.now.keep c.args.choice.now.flips.items
           (take c.loop-file.file-index c.self.inside.files.items) ++ (file.name, b) ∷ []) left
-          ∙ sym (Left.left_next c.args.choice.now.keep c.args.choice.now.flips.items c.self.inside.files.items c.loop-file.file-index file below is),
+          ∙ sym (Left.left_next c.args.choice.now.keep c.args.choice.now.flips.items
+          c.self.inside.files.items c.loop-file.file-index file below is),
       next.1,
-      subst Left.AreAllBytes (sym next.0) (Left.all_bytes_append c.loop-file.after.told.image file.name bytes.items so_far.2 c.in_ok-bytes.ensures.are_bytes),
+      subst Left.AreAllBytes (sym next.0)
+          (Left.all_bytes_append c.loop-file.after.told.image file.name bytes.items so_far.2
+          c.in_ok-bytes.ensures.are_bytes),
     )
 
 pub returns-clause-image : goal.returns-clause-image

@@ -48,4 +48,6 @@ returns-clause-ok c =
     c.new-file.ensures.bytes refl)
 
 pub returns-clause-rooms : goal.returns-clause-rooms
-returns-clause-rooms c n = rw (← c.self.view_is, c.in_ok-push.ensures.items) (Listings.added_rooms c.self.inside.files.items c.new-file.result n)
+returns-clause-rooms c n =
+    rw (← c.self.view_is, c.in_ok-push.ensures.items)
+    (Listings.added_rooms c.self.inside.files.items c.new-file.result n)

@@ -8,7 +8,9 @@ use Rattle.bk_memdisk.proofs.directory.Directory.cut.Goals as goal
 pub cut-requires : goal.cut-requires
 cut-requires c =
     let first = rw c.deref.ensures.value at c.place_of-index.ensures.first in
-    let within = subst (CutsWithin c.args.name c.args.len) (sym (ap (λ (v : Contents). v.told) c.self.view_is)) c.requires.within in
+    let within =
+    subst (CutsWithin c.args.name c.args.len) (sym (ap (λ (v : Contents). v.told) c.self.view_is))
+    c.requires.within in
     Edits.safe_is c.args.name c.self.inside.files.items (after_all [] c.self.inside.journal.items)
     c.place_of-index.result c.index_mut-file.result.now c.self.invariant.tied first
     c.index_mut-file.ensures.value c.args.len within.keeps

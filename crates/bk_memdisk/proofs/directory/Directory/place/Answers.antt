@@ -10,7 +10,10 @@ use Rattle.bk_memdisk.proofs.directory.Directory.place.Goals as goal
 
 pub returns-in_default-clause-ok : goal.returns-in_default-clause-ok
 returns-in_default-clause-ok c =
-    let absent = rw c.deref.ensures.value at (Listings.not_there c.args.name c.deref.result.now (sym c.find.ensures.place ∙ c.in_default.is)) in
+    let absent =
+    rw c.deref.ensures.value
+    at (Listings.not_there c.args.name c.deref.result.now
+    (sym c.find.ensures.place ∙ c.in_default.is)) in
     let more = rw c.reserve.ensures.items at c.push_reserved.ensures.items in
     let word = ap (λ bytes. placed c.args.name (whole bytes) (after_all [] c.self.inside.journal.items)) c.requires in
     rw (← c.self.view_is, c.in_ok-push.ensures.items) (Listings.put_told c.args.name c.self.inside.files.items
@@ -21,7 +24,10 @@ returns-in_default-clause-ok c =
 
 pub returns-clause-ok : goal.returns-clause-ok
 returns-clause-ok c =
-    let first = rw c.deref.ensures.value at (found c.args.name c.deref.result.now c.in-Some.index (sym c.find.ensures.place ∙ c.in-Some.is)) in
+    let first =
+    rw c.deref.ensures.value
+    at (found c.args.name c.deref.result.now c.in-Some.index
+    (sym c.find.ensures.place ∙ c.in-Some.is)) in
     let more = rw c.reserve.ensures.items at c.push_reserved-2.ensures.items in
     let word = ap (λ bytes. placed c.args.name (whole bytes) (after_all [] c.self.inside.journal.items)) c.requires in
     rw (← c.self.view_is) (Listings.replaced_told c.args.name c.self.inside.files.items c.self.inside.journal.items
@@ -33,10 +39,15 @@ returns-clause-ok c =
 
 pub invariant_of-self-in_default : goal.invariant_of-self-in_default
 invariant_of-self-in_default c =
-    let absent = rw c.deref.ensures.value at (Listings.not_there c.args.name c.deref.result.now (sym c.find.ensures.place ∙ c.in_default.is)) in
+    let absent =
+    rw c.deref.ensures.value
+    at (Listings.not_there c.args.name c.deref.result.now
+    (sym c.find.ensures.place ∙ c.in_default.is)) in
     let more = rw c.reserve.ensures.items at c.push_reserved.ensures.items in
     let word = ap (λ bytes. placed c.args.name (whole bytes) (after_all [] c.self.inside.journal.items)) c.requires in
-    let sums = Listings.owed_added c.self.inside.files.items c.of-place.result c.self.inside.reserved c.self.invariant.reserved in
+    let sums =
+    Listings.owed_added c.self.inside.files.items c.of-place.result c.self.inside.reserved
+    c.self.invariant.reserved in
     record {
       tied = rw c.in_ok-push.ensures.items (Listings.added_tied c.args.name c.self.inside.files.items
           c.self.inside.journal.items c.push_reserved.new.self.items c.of-place.result (whole c.args.bytes.items)
@@ -48,7 +59,10 @@ invariant_of-self-in_default c =
 
 pub invariant_of-self-2 : goal.invariant_of-self-2
 invariant_of-self-2 c =
-    let first = rw c.deref.ensures.value at (found c.args.name c.deref.result.now c.in-Some.index (sym c.find.ensures.place ∙ c.in-Some.is)) in
+    let first =
+    rw c.deref.ensures.value
+    at (found c.args.name c.deref.result.now c.in-Some.index
+    (sym c.find.ensures.place ∙ c.in-Some.is)) in
     let below = rw c.deref.ensures.value at c.in-Some.ensures.below in
     let more = rw c.reserve.ensures.items at c.push_reserved-2.ensures.items in
     let word = ap (λ bytes. placed c.args.name (whole bytes) (after_all [] c.self.inside.journal.items)) c.requires in
@@ -60,7 +74,12 @@ invariant_of-self-2 c =
           (Placed c.args.name c.args.copy) (whole c.args.bytes.items) c.self.invariant.tied first
           c.index_mut-file.ensures.value more c.of-place.ensures.name c.of-place.ensures.fits word;
       reserved = rw c.owed.ensures.value (omega (arith, sums, c.of-place.ensures.owed));
-      room = omega (arith, c.in_ok-reserve.ensures.ok, c.push_reserved-2.ensures.len, c.push_reserved-2.ensures.capacity);
+      room = omega (
+        arith,
+        c.in_ok-reserve.ensures.ok,
+        c.push_reserved-2.ensures.len,
+        c.push_reserved-2.ensures.capacity,
+      );
     }
 
 pub returns-in_default-clause-rooms : goal.returns-in_default-clause-rooms
@@ -69,7 +88,10 @@ returns-in_default-clause-rooms c n other = rw (← c.self.view_is, c.in_ok-push
 
 pub returns-clause-rooms : goal.returns-clause-rooms
 returns-clause-rooms c n other =
-    let first = rw c.deref.ensures.value at (found c.args.name c.deref.result.now c.in-Some.index (sym c.find.ensures.place ∙ c.in-Some.is)) in
+    let first =
+    rw c.deref.ensures.value
+    at (found c.args.name c.deref.result.now c.in-Some.index
+    (sym c.find.ensures.place ∙ c.in-Some.is)) in
     let same_name = c.of-place.ensures.name ∙ sym (Edits.name_is c.args.name c.self.inside.files.items
     (after_all [] c.self.inside.journal.items) c.in-Some.index c.index_mut-file.result.now
     c.self.invariant.tied first c.index_mut-file.ensures.value) in

@@ -73,7 +73,9 @@ returns-in_err-ready-clause-rooms c n =
 pub invariant_of-self-2 : goal.invariant_of-self-2
 invariant_of-self-2 c =
     let below = rw c.deref.ensures.value at c.place_of-index.ensures.below in
-    let within = Edits.owed_within c.self.inside.files.items c.place_of-index.result c.index_mut-file.result.now below c.index_mut-file.ensures.value in
+    let within =
+    Edits.owed_within c.self.inside.files.items c.place_of-index.result
+    c.index_mut-file.result.now below c.index_mut-file.ensures.value in
     let more = Edits.owed_more c.index_mut-file.result.now c.ready.new.self c.ready.ensures.others in
     record {
       tied = rw c.reserve.ensures.items (Edits.set_tied c.self.inside.files.items c.place_of-index.result
