@@ -3,7 +3,6 @@ use Rattle.std.specs.Prelude.{◌≡◌, ◌==◌, ℕ, ◌+◌, ◌-◌, Bool, 
 use mathlib.Core.List.{IsPrefix}
 use mathlib.Core.Option.{some}
 use lib.ListN.{get_elem?}
-use Rattle.bk_base.specs.declared.histories.Step.{Step}
 use Rattle.bk_base.specs.Blanks.{blank_opening}
 use Rattle.bk_turn.specs.declared.views.View.{View}
 use Rattle.bk_turn.specs.declared.seats.Note.{Note}

@@ -19,13 +19,6 @@ returns-then-serving-ticket-clause-took g c = took_again g.S.Stands.stands c.arg
     c.take.ensures.taken
     c.take.ensures.left
 
-pub loop-preserved-then-spins-lt-SPINS : goal.loop-preserved-then-spins-lt-SPINS
-loop-preserved-then-spins-lt-SPINS g c = record {
-  going = (tt, tt);
-  table = c.load-serving.ensures.0 ∙ c.loop.invariant.table;
-  seat = found_other g.S.Stands.stands c.args.words.now.key 0 c.load-serving.result c.args.ticket c.loop.seat.me c.args.seat.now.me c.load-serving.new.seat.me c.loop.invariant.seat c.requires.ready.0 c.load-serving.ensures.2 c.if-serving-ticket.false;
-}
-
 pub loop-preserved : goal.loop-preserved
 loop-preserved g c = record {
   going = (tt, tt);
