@@ -10,18 +10,20 @@ use std::alloc::{AllocError, Global};
 use std::sync::Wait;
 use std::thread::{Threads, for_each_mut};
 
-/// Takes the turn so many rounds in each of some threads, and answers how many steps the history has.
+/// Takes the turn and works, so many rounds in each of at most 64 threads, and answers how many
+/// steps the history has.
 pub fn hold_by<R: Threads + Wait + Sync>(
     rt: &R,
     alloc: Global,
     threads: usize,
     rounds: u64,
+    work: u64,
 ) -> Result<u64, AllocError> {
     let threads = threads.clamp(1, 64);
     let mut places = empty_places(alloc, threads)?;
-    match Turn::new(alloc, Count { steps: 0 }, 1) {
+    match Turn::new(alloc, Count::new(), 1) {
         Ok(Opened { turn, pass }) => {
-            let pass = hold_in_all(rt, &turn, pass, places.as_mut_slice(), rounds);
+            let pass = hold_in_all(rt, &turn, pass, places.as_mut_slice(), rounds, work);
             drop_places(places);
             Ok(turn.close(pass).steps)
         }
@@ -39,6 +41,7 @@ fn hold_in_all<R: Threads + Wait + Sync>(
     pass: Pass,
     places: &mut [Option<Pass>],
     rounds: u64,
+    work: u64,
 ) -> Pass
     requires turn { pass_turn pass ≡ turn_id turn.now }
     requires places { All (λ place. place ≡ None) places.old × (length places.old < (pass_view pass).weight) }
@@ -47,7 +50,7 @@ fn hold_in_all<R: Threads + Wait + Sync>(
     ensures emptied { All (λ place. place ≡ None) places.new }
 {
     let pass = turn.split_into(pass, places);
-    hold_in_each(rt, turn, places, rounds);
+    hold_in_each(rt, turn, places, rounds, work);
     turn.join_from(pass, places)
 }
 
@@ -56,6 +59,7 @@ fn hold_in_each<R: Threads + Wait + Sync>(
     turn: &Turn<Count>,
     places: &mut [Option<Pass>],
     rounds: u64,
+    work: u64,
 )
     requires { All (HasPass (turn_id turn.now)) places.old }
     ensures turn { All (HasPass (turn_id turn.now)) places.new }
@@ -68,26 +72,26 @@ fn hold_in_each<R: Threads + Wait + Sync>(
         &|_, place: &mut Option<Pass>|
             requires { HasPass (turn_id turn.now) place.old }
             ensures { HasPass (turn_id turn.entry.now) place.new × ((place_view place.new).weight ≡ (place_view place.old).weight) }
-        { hold_often(rt, turn, place, rounds) },
+        { hold_often(rt, turn, place, rounds, work) },
     );
 }
 
 /// So many holdings, unless the tickets are used up.
-fn hold_often<R: Wait>(rt: &R, turn: &Turn<Count>, place: &mut Option<Pass>, rounds: u64)
+fn hold_often<R: Wait>(rt: &R, turn: &Turn<Count>, place: &mut Option<Pass>, rounds: u64, work: u64)
     requires { HasPass (turn_id turn.now) place.old }
     ensures turn { HasPass (turn_id turn.now) place.new }
     ensures weight { (place_view place.new).weight ≡ (place_view place.old).weight }
 {
     for _ in 0..rounds {
-        if hold(rt, turn, place).is_none() {
+        if hold(rt, turn, place, work).is_none() {
             return;
         }
     }
 }
 
-/// One holding, which counts itself. It answers how many steps the history then has, or None where
-/// the tickets are used up.
-fn hold<R: Wait>(rt: &R, turn: &Turn<Count>, place: &mut Option<Pass>) -> Option<u64>
+/// One holding, which works and counts itself. It answers how many steps the history then has, or
+/// None where the tickets are used up.
+fn hold<R: Wait>(rt: &R, turn: &Turn<Count>, place: &mut Option<Pass>, work: u64) -> Option<u64>
     requires { HasPass (turn_id turn.now) place.old }
     ensures turn { HasPass (turn_id turn.now) place.new }
     ensures weight { (place_view place.new).weight ≡ (place_view place.old).weight }
@@ -95,8 +99,7 @@ fn hold<R: Wait>(rt: &R, turn: &Turn<Count>, place: &mut Option<Pass>) -> Option
 {
     match turn.enter(rt, take_pass(place)) {
         Ok(mut holding) => {
-            let count = holding.value.steps.wrapping_add(1);
-            holding.value.steps = count;
+            let count = holding.value.hold(work);
             put_pass(place, turn.leave(holding));
             Some(count)
         }

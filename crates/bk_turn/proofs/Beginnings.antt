@@ -52,7 +52,8 @@ module _ {A : Type 0} where
   prefix_get (y ∷ xs) (z ∷ ys) (suc k) x p h = prefix_get xs ys k x (p.0, cc (p.1)) h
 
   -- what stands in a list with one more stands in the list, or is the last
-  pub get_snoc : (xs : List A) (k : ℕ) (x y : A) → slice_get (xs ++ x ∷ []) k ≡ Some y → (slice_get xs k ≡ Some y) ⊎ ((k ≡ length xs) × (x ≡ y))
+  pub get_snoc : (xs : List A) (k : ℕ) (x y : A) → slice_get (xs ++ x ∷ []) k ≡ Some y
+      → (slice_get xs k ≡ Some y) ⊎ ((k ≡ length xs) × (x ≡ y))
   get_snoc [] zero x y h = inr (refl, cc)
   get_snoc [] (suc k) x y h = absurd cc
   get_snoc (z ∷ xs) zero x y h = inl h
@@ -67,10 +68,14 @@ module _ {A : Type 0} where
   no_length [] e = refl
   no_length (x ∷ xs) e = absurd (omega arith)
 
-longer_cases : (b : Bool) (left right all : List Step) → nat_lt (length left) (length right) ≡ b → IsPrefix left all → IsPrefix right all
-    → IsPrefix (if b then right else left) all × IsPrefix left (if b then right else left) × IsPrefix right (if b then right else left)
-longer_cases true left right all is p q = let lt : length left < length right = grind (arith, nat_tests) in (q, prefix_shorter left right all p q (omega arith), prefix_self right)
-longer_cases false left right all is p q = let le : length right ≤ length left = grind (arith, nat_tests) in (p, prefix_self left, prefix_shorter right left all q p le)
+longer_cases : (b : Bool) (left right all : List Step) → nat_lt (length left) (length right) ≡ b
+    → IsPrefix left all → IsPrefix right all
+    → IsPrefix (if b then right else left) all × IsPrefix left (if b then right else left)
+    × IsPrefix right (if b then right else left)
+longer_cases true left right all is p q = let lt : length left < length right =
+    grind (arith, nat_tests) in (q, prefix_shorter left right all p q (omega arith), prefix_self right)
+longer_cases false left right all is p q = let le : length right ≤ length left =
+    grind (arith, nat_tests) in (p, prefix_self left, prefix_shorter right left all q p le)
 
 -- the longer of two beginnings is a beginning, and both begin it
 pub longer_prefix : (left right all : List Step) → IsPrefix left all → IsPrefix right all
@@ -88,9 +93,11 @@ get_below (y ∷ xs) zero x h = omega arith
 get_below (y ∷ xs) (suc k) x h = let r = get_below xs k x h in omega arith
 
 -- a caller that no step names has no own steps
-pub own_none : (n : ℕ) (xs : List Step) → ((k : ℕ) (step : Step) → slice_get xs k ≡ Some step → step.entry.caller ≢ n) → own n xs ≡ []
+pub own_none : (n : ℕ) (xs : List Step)
+    → ((k : ℕ) (step : Step) → slice_get xs k ≡ Some step → step.entry.caller ≢ n) → own n xs ≡ []
 own_none n [] others = refl
-own_none n (x ∷ xs) others = rw (ne_eqb x.entry.caller n (others 0 x refl)) (own_none n xs (λ k step at. others (suc k) step at))
+own_none n (x ∷ xs) others =
+    rw (ne_eqb x.entry.caller n (others 0 x refl)) (own_none n xs (λ k step at. others (suc k) step at))
 
 -- the own steps of one step
 pub own_one : (n : ℕ) (step : Step) → step.entry.caller ≡ n → own n (step ∷ []) ≡ step ∷ []

@@ -10,5 +10,6 @@ pub mod Glues
 pub mod Closes
 pub mod Turning
 pub mod Rows
+pub mod Joining
 -- for tests and measurement alone
 pub mod Pushing

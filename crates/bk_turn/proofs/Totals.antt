@@ -23,16 +23,21 @@ module _ {A : Type 0} (f : A → ℕ) where
   total-one (x ∷ xs) zero v at = let is : f x ≡ f v = ap f (some-injective x v at) in omega arith
   total-one (x ∷ xs) (suc k) v at = let r = total-one xs k v at in omega arith
 
-  pub total-two : (l : List A) (k j : ℕ) (v w : A) → k ≢ j → get_elem? l k ≡ some v → get_elem? l j ≡ some w → f v + f w ≤ total f l
+  pub total-two : (l : List A) (k j : ℕ) (v w : A) → k ≢ j → get_elem? l k ≡ some v
+      → get_elem? l j ≡ some w → f v + f w ≤ total f l
   total-two [] k j v w ne at at' = absurd (some-ne-none v (sym at))
   total-two (x ∷ xs) zero zero v w ne at at' = absurd (ne refl)
-  total-two (x ∷ xs) zero (suc j) v w ne at at' = let is : f x ≡ f v = ap f (some-injective x v at) in let r = total-one xs j w at' in omega arith
-  total-two (x ∷ xs) (suc k) zero v w ne at at' = let is : f x ≡ f w = ap f (some-injective x w at') in let r = total-one xs k v at in omega arith
-  total-two (x ∷ xs) (suc k) (suc j) v w ne at at' = let r = total-two xs k j v w (λ e. ne (ap suc e)) at at' in omega arith
+  total-two (x ∷ xs) zero (suc j) v w ne at at' = let is : f x ≡ f v =
+      ap f (some-injective x v at) in let r = total-one xs j w at' in omega arith
+  total-two (x ∷ xs) (suc k) zero v w ne at at' = let is : f x ≡ f w =
+      ap f (some-injective x w at') in let r = total-one xs k v at in omega arith
+  total-two (x ∷ xs) (suc k) (suc j) v w ne at at' = let r =
+      total-two xs k j v w (λ e. ne (ap suc e)) at at' in omega arith
 
   pub total-zero : (l : List A) → ((k : ℕ) (v : A) → get_elem? l k ≡ some v → f v ≡ 0) → total f l ≡ 0
   total-zero [] each = refl
-  total-zero (x ∷ xs) each = let h : f x ≡ 0 = each zero x refl in let r = total-zero xs (λ k v at. each (suc k) v at) in omega arith
+  total-zero (x ∷ xs) each = let h : f x ≡ 0 = each zero x refl in let r =
+      total-zero xs (λ k v at. each (suc k) v at) in omega arith
 
 module _ {A : Type 0} where
   -- a place of a list is below its length
@@ -60,18 +65,25 @@ one_if_most true = omega arith
 one_if_most false = omega arith
 
 -- a fact of each seat holds after a change if it holds of each other seat and of the changed one
-pub each_set : (P : Seated → Type 0) (l : List Seated) (id : ℕ) (w : Seated) → ((k : ℕ) (seat : Seated) → k ≢ id → get_elem? l k ≡ some seat → P seat) → P w → Each (set l id w) P
-each_set P l id w others changed k seat at = ⊎_elim (λ hit. subst P hit.1 changed) (λ miss. others k seat miss.0 miss.1) (at_set l id k w seat at)
+pub each_set : (P : Seated → Type 0) (l : List Seated) (id : ℕ) (w : Seated)
+    → ((k : ℕ) (seat : Seated) → k ≢ id → get_elem? l k ≡ some seat → P seat) → P w → Each (set l id w) P
+each_set P l id w others changed k seat at =
+    ⊎_elim (λ hit. subst P hit.1 changed) (λ miss. others k seat miss.0 miss.1) (at_set l id k w seat at)
 
-pub each_live_set : (P : Seated → Type 0) (l : List Seated) (id : ℕ) (w : Seated) → EachLive l P → P w → EachLive (set l id w) P
-each_live_set P l id w each changed k seat at = ⊎_elim (λ hit live. subst P hit.1 changed) (λ miss live. each k seat miss.1 live) (at_set l id k w seat at)
+pub each_live_set : (P : Seated → Type 0) (l : List Seated) (id : ℕ) (w : Seated) → EachLive l P → P w
+    → EachLive (set l id w) P
+each_live_set P l id w each changed k seat at =
+    ⊎_elim (λ hit live. subst P hit.1 changed) (λ miss live. each k seat miss.1 live)
+    (at_set l id k w seat at)
 
 -- and one more seat
 pub each_snoc : (P : Seated → Type 0) (l : List Seated) (w : Seated) → Each l P → P w → Each (l ++ w ∷ []) P
 each_snoc P l w each last k seat at = ⊎_elim (λ old. each k seat old) (λ new. subst P new last) (at_snoc l w seat k at)
 
-pub each_live_snoc : (P : Seated → Type 0) (l : List Seated) (w : Seated) → EachLive l P → P w → EachLive (l ++ w ∷ []) P
-each_live_snoc P l w each last k seat at = ⊎_elim (λ old live. each k seat old live) (λ new live. subst P new last) (at_snoc l w seat k at)
+pub each_live_snoc : (P : Seated → Type 0) (l : List Seated) (w : Seated) → EachLive l P → P w
+    → EachLive (l ++ w ∷ []) P
+each_live_snoc P l w each last k seat at =
+    ⊎_elim (λ old live. each k seat old live) (λ new live. subst P new last) (at_snoc l w seat k at)
 
 -- a seat that is new or has the slot is busy
 pub new_busy : (st : Stage) → is_new st ≡ true → is_busy st ≡ 1
@@ -91,7 +103,8 @@ slot_busy (Holding t) e = refl
 slot_busy Gone e = absurd cc
 
 -- in a list of one there is no second place
-pub one_place : {A : Type 0} (l : List A) (k j : ℕ) (v w : A) → length l ≡ 1 → get_elem? l k ≡ some v → get_elem? l j ≡ some w → k ≡ j
+pub one_place : {A : Type 0} (l : List A) (k j : ℕ) (v w : A) → length l ≡ 1 → get_elem? l k ≡ some v
+    → get_elem? l j ≡ some w → k ≡ j
 one_place l k j v w one at at' = let a = at_below l k v at in let b = at_below l j w at' in omega arith
 
 -- a fact of the only seat

@@ -7,12 +7,16 @@ use Rattle.bk_turn.specs.declared.turns.Turn.{Turn}
 use Rattle.bk_turn.specs.declared.views.View.{View}
 use Rattle.bk_turn.specs.Badges.{seat_of}
 
+-- what tells one turn from another
+abbrev pub TurnId : Type 0
+TurnId = TableId
+
 -- which turn it is
-abbrev pub turn_id : {S : Type 0} → Turn S → TableId
+abbrev pub turn_id : {S : Type 0} → Turn S → TurnId
 turn_id turn = turn.table.shared.table_id
 
 -- which turn a pass is of
-abbrev pub pass_turn : Pass → TableId
+abbrev pub pass_turn : Pass → TurnId
 pass_turn pass = pass.badge.table_id
 
 -- what a pass knows
@@ -21,7 +25,7 @@ pass_view pass = (seat_of pass.badge.views).view
 
 module _ {S : Type 0} where
   -- which turn a holding is of
-  abbrev pub hold_turn : Holding S → TableId
+  abbrev pub hold_turn : Holding S → TurnId
   hold_turn holding = holding.seat.table_id
 
   -- what a holding knows: the whole history, and what its pass knew beside it

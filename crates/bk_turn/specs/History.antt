@@ -32,15 +32,26 @@ longer left right = if nat_lt (length left) (length right) then right else left
 
 -- what the first pass of a turn knows
 abbrev pub opening_view : ℕ → Opening → View
-opening_view first opening = record { opening = opening; seen = []; number = None; first = first; weight = 4294967296; full = false }
+opening_view first opening =
+    record { opening = opening; seen = []; number = None; first = first; weight = 4294967296; full = false }
 
 -- what a pass knows that was split from one that knows `view`
 abbrev pub split_view : View → View
-split_view view = record { opening = view.opening; seen = view.seen; number = None; first = view.first; weight = 1; full = false }
+split_view view =
+    record {
+      opening = view.opening;
+      seen = view.seen;
+      number = None;
+      first = view.first;
+      weight =
+          1;
+      full = false;
+    }
 
 -- A holding at `place` has seen the whole history. It begins with what its pass had seen, and no later step is its pass's own.
 pub record Continues (old : View) (place number : ℕ) (now : View) : Type 0 where
-  pub same : (now.first ≡ old.first) × (now.opening ≡ old.opening) × (now.number ≡ old.number) × (now.weight ≡ old.weight) × (now.full ≡ old.full)
+  pub same : (now.first ≡ old.first) × (now.opening ≡ old.opening) × (now.number ≡ old.number)
+      × (now.weight ≡ old.weight) × (now.full ≡ old.full)
   pub seen : IsPrefix old.seen now.seen
   pub placed : place ≡ old.first + length now.seen
   pub numbered : number ≡ number_at old.number place

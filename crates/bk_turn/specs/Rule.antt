@@ -24,22 +24,27 @@ pub record TicketsInOrder (first serving ticket : ℕ) (seats : List Seated) : T
   pub full : Each seats (λ seat. seat.view.full ≡ true → ticket ≡ 18446744073709551615)
 
 -- 2. What each seat has seen begins the longest list, which has a step for each place served, and which some seat has seen.
-pub record SeenFromTheFront (first serving : ℕ) (opening : Opening) (longest : List Step) (seats : List Seated) : Type 0 where
+pub record SeenFromTheFront (first serving : ℕ) (opening : Opening) (longest : List Step)
+    (seats : List Seated) : Type 0 where
   pub long : first + length longest ≡ serving
   pub one_turn : EachLive seats (λ seat. (seat.view.first ≡ first) × (seat.view.opening ≡ opening))
   pub seen : EachLive seats (λ seat. IsPrefix seat.view.seen longest)
   pub noted : EachLive seats (λ seat. IsNoted seat.view seat.note)
-  pub known : (k : ℕ) × (seat : Seated) × (get_elem? seats k ≡ some seat) × (is_live seat.stage ≡ true) × (seat.view.seen ≡ longest)
+  pub known : (k : ℕ) × (seat : Seated) × (get_elem? seats k ≡ some seat)
+      × (is_live seat.stage ≡ true) × (seat.view.seen ≡ longest)
 
 -- 3. The slot is away exactly while the first seat fills it or the seat whose ticket is served has it. Until it was filled there is no other seat, no ticket is out and it is empty.
-pub record SlotHasItsPlace {S : Type 0} (first serving ticket : ℕ) (homes : List (maybe.Option (Option S))) (seats : List Seated) : Type 0 where
+pub record SlotHasItsPlace {S : Type 0} (first serving ticket : ℕ)
+    (homes : List (maybe.Option (Option S))) (seats : List Seated) : Type 0 where
   pub turns : (k : ℕ) (seat : Seated) → get_elem? seats k ≡ some seat → (t : ℕ) → seat.stage ≡ Holding t → t ≡ serving
   pub away : Each seats (λ seat. has_slot seat.stage ≡ true → homes ≡ none ∷ [])
   pub empty : Each seats (λ seat. seat.stage ≡ Fresh → homes ≡ some None ∷ [])
   pub alone : Each seats (λ seat. is_new seat.stage ≡ true → (length seats ≡ 1) × (ticket ≡ first))
 
 -- 4. At rest in the slot is a value that stands for the longest list, and a seat that has the slot has seen that list.
-pub record ValueStandsForTheLongest {S : Type 0} (stands : S → ℕ → Opening → List Step → Type 0) (first : ℕ) (opening : Opening) (longest : List Step) (homes : List (maybe.Option (Option S))) (seats : List Seated) : Type 0 where
+pub record ValueStandsForTheLongest {S : Type 0} (stands : S → ℕ → Opening → List Step → Type 0)
+    (first : ℕ) (opening : Opening) (longest : List Step) (homes : List (maybe.Option (Option S)))
+    (seats : List Seated) : Type 0 where
   pub home : busy seats ≡ 0 → (value : S) × (homes ≡ some (Some value) ∷ []) × stands value first opening longest
   pub holders : Each seats (λ seat. has_slot seat.stage ≡ true → seat.view.seen ≡ longest)
 
@@ -54,7 +59,8 @@ pub record NumbersAreApart (first serving : ℕ) (longest : List Step) (seats : 
   pub apart : (n : ℕ) → numbers n seats ≤ 1
   pub unborn : (n : ℕ) → serving ≤ n → numbers n seats ≡ 0
   pub placed : (k : ℕ) (step : Step) → slice_get longest k ≡ Some step → step.entry.caller ≤ first + k
-  pub numbered : (k : ℕ) (seat : Seated) → get_elem? seats k ≡ some seat → (n : ℕ) → seat.view.number ≡ Some n → IsNumber first longest seat.view.seen n
+  pub numbered : (k : ℕ) (seat : Seated) → get_elem? seats k ≡ some seat → (n : ℕ)
+      → seat.view.number ≡ Some n → IsNumber first longest seat.view.seen n
 
 -- 6. Each seat has a weight, and all weights together are 4,294,967,296. A seat that was joined away has neither weight nor number.
 pub record WeightsAreWhole (seats : List Seated) : Type 0 where
@@ -62,7 +68,8 @@ pub record WeightsAreWhole (seats : List Seated) : Type 0 where
   pub whole : weights seats ≡ 4294967296
   pub gone : Each seats (λ seat. is_live seat.stage ≡ false → (seat.view.weight ≡ 0) × (seat.view.number ≡ None))
 
-pub record Orderly {S : Type 0} (stands : S → ℕ → Opening → List Step → Type 0) (first : ℕ) (s : State (Option S) Seated) : Type 0 where
+pub record Orderly {S : Type 0} (stands : S → ℕ → Opening → List Step → Type 0) (first : ℕ)
+    (s : State (Option S) Seated) : Type 0 where
   pub serving : ℕ
   pub ticket : ℕ
   pub opening : Opening

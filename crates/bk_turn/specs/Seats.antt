@@ -3,7 +3,6 @@ use Rattle.std.specs.Prelude.{◌≡◌, ◌==◌, ℕ, ◌+◌, ◌-◌, Bool, 
 use mathlib.Core.List.{IsPrefix}
 use mathlib.Core.Option.{some}
 use lib.ListN.{get_elem?}
-use Rattle.bk_base.specs.declared.histories.Step.{Step}
 use Rattle.bk_base.specs.Blanks.{blank_opening}
 use Rattle.bk_turn.specs.declared.views.View.{View}
 use Rattle.bk_turn.specs.declared.seats.Note.{Note}
@@ -14,7 +13,15 @@ use Rattle.bk_turn.specs.History.{own_of, IsApart, longer, opening_view, split_v
 
 -- the note of a seat that has joined nobody
 abbrev pub plain_note : View → Note
-plain_note view = record { opening = view.opening; left = view.seen; right = view.seen; number = None; first = view.first }
+plain_note view =
+    record {
+      opening = view.opening;
+      left = view.seen;
+      right = view.seen;
+      number = None;
+      first =
+          view.first;
+    }
 
 abbrev pub seated : Stage → View → Seated
 seated stage view = record { view = view; note = plain_note view; stage = stage }
@@ -36,12 +43,28 @@ abbrev pub cut_right : Seated → Seated
 cut_right seat = seated Idle (split_view seat.view)
 
 abbrev pub joined_view : View → View → View
-joined_view left right = record { opening = left.opening; seen = longer left.seen right.seen; number = left.number; first = left.first; weight = left.weight + right.weight; full = left.full || right.full }
+joined_view left right =
+    record {
+      opening = left.opening;
+      seen = longer left.seen right.seen;
+      number = left.number;
+      first =
+          left.first;
+      weight = left.weight + right.weight;
+      full = left.full || right.full;
+    }
 
 abbrev pub joined : Seated → Seated → Seated
 joined left right = record {
   view = joined_view left.view right.view;
-  note = record { opening = right.view.opening; left = left.view.seen; right = right.view.seen; number = right.view.number; first = right.view.first };
+  note = record {
+    opening = right.view.opening;
+    left = left.view.seen;
+    right =
+        right.view.seen;
+    number = right.view.number;
+    first = right.view.first;
+  };
   stage = left.stage;
 }
 

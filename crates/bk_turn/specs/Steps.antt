@@ -56,13 +56,23 @@ module _ {S : Type 0} where
 
   -- the holding's step was added, and the slot given back
   abbrev pub served : Step → table.Step (Option S) → Sat S → ℕ → Sat S → Type 0
-  served added st m n m' = (t : ℕ) → m.0.stage ≡ Holding t → m' ≡ (seated Idle (record m.0.view { seen = m.0.view.seen ++ added ∷ []; number = Some (number_at m.0.view.number t) }), [])
+  served added st m n m' = (t : ℕ) → m.0.stage ≡ Holding t
+      → m' ≡ (
+        seated Idle
+            (record m.0.view {
+              seen = m.0.view.seen ++ added ∷ [];
+              number =
+                  Some (number_at m.0.view.number t);
+            }),
+        [],
+      )
 
   abbrev pub compared : table.Step (Option S) → Sat S → ℕ → Sat S → Type 0
   compared st m n m' = (m' ≡ m) × IsNoted m.0.view m.0.note
 
   -- what a seat knows that has waited for its turn and has taken the value out of the slot
-  pub record TookTurn (stands : S → ℕ → Opening → List Step → Type 0) (t : ℕ) (old : View) (value : S) (m : Sat S) : Type 0 where
+  pub record TookTurn (stands : S → ℕ → Opening → List Step → Type 0) (t : ℕ) (old : View) (value : S)
+      (m : Sat S) : Type 0 where
     pub seat : m ≡ (seated (Holding t) (record old { seen = m.0.view.seen }), (0, None) ∷ [])
     pub seen : IsPrefix old.seen m.0.view.seen
     pub value_stands : stands value old.first old.opening m.0.view.seen

@@ -9,6 +9,7 @@ mod entering;
 mod holdings;
 mod making;
 mod passes;
+mod patience;
 mod places;
 mod plays;
 mod seats;

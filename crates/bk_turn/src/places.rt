@@ -1,9 +1,8 @@
 //! Passes in places: in an `Option`, since no closure can own a pass, and in a row of them.
-ghost use Rattle.std.specs.Prelude.{◌≡◌, ◌+◌, ◌-◌, ◌<◌, ℕ, length, None, All, IsSome, IfOk, vec_len};
-ghost use mathlib.Core.List.{IsPrefix};
+ghost use Rattle.std.specs.Prelude.{◌≡◌, ◌-◌, ◌<◌, ◌≤◌, ℕ, length, Option, None, All, IsSome, IfOk, slice_index_or, vec_len};
+ghost use Rattle.bk_turn.specs.declared.passes.Pass.{Pass};
 ghost use Rattle.bk_turn.specs.Handles.{turn_id, pass_turn, pass_view};
-ghost use Rattle.bk_turn.specs.History.{own_of};
-ghost use Rattle.bk_turn.specs.Places.{place_view, HasPass, HasSplit, weights_of};
+ghost use Rattle.bk_turn.specs.Places.{place_view, end_of, weights_of, HasPass, MayHavePass, HasSplit, Keeps, IsSeenIn};
 
 use crate::passes::{Pass, Two};
 use crate::stands::Stands;
@@ -75,20 +74,82 @@ impl<S: Stands> Turn<S> {
     }
 
     /// Joins the pass of each place into one. It has seen all that they saw, and keeps its number.
+    /// Among what it has seen, the steps that each of them had seen as its own are all of its own.
     pub fn join_from(&self, pass: Pass, places: &mut [Option<Pass>]) -> Pass
         requires turn { pass_turn pass ≡ turn_id self.now }
         requires filled { All (HasPass (turn_id self.now)) places.old }
         ensures turn { pass_turn result ≡ turn_id self.now }
-        ensures weight { (pass_view result).weight ≡ (pass_view pass).weight + weights_of places.old }
-        ensures seen { IsPrefix (pass_view pass).seen (pass_view result).seen }
-        ensures all_seen { All (λ place. IsPrefix (place_view place).seen (pass_view result).seen) places.old }
-        ensures own { let number = (pass_view pass).number in ((pass_view result).number ≡ number) × (own_of number (pass_view result).seen ≡ own_of number (pass_view pass).seen) }
+        ensures keeps { Keeps (pass_view pass) (weights_of places.old) (pass_view result) }
+        ensures joined { All (IsSeenIn (pass_view result).seen) places.old }
+        ensures emptied { All (λ place. place ≡ None) places.new }
+    {
+        if places.is_empty() {
+            return pass;
+        }
+        // The place that has seen most comes first: from then on nothing is added to what was seen,
+        // so no pass that was joined can have a step of its own in a part that it had not seen.
+        let most = farthest(places);
+        let pass = self.join(pass, take_pass(&mut places[most]));
+        self.join_each(pass, places)
+    }
+
+    /// Joins the passes that are there into one that has seen as much as any of them.
+    fn join_each(&self, pass: Pass, places: &mut [Option<Pass>]) -> Pass
+        requires turn { pass_turn pass ≡ turn_id self.now }
+        requires filled { All (MayHavePass (turn_id self.now)) places.old }
+        requires farthest { All (λ place. end_of (place_view place) ≤ end_of (pass_view pass)) places.old }
+        ensures turn { pass_turn result ≡ turn_id self.now }
+        ensures keeps { Keeps (pass_view pass) (weights_of places.old) (pass_view result) }
+        ensures seen { (pass_view result).seen ≡ (pass_view pass).seen }
+        ensures joined { All (IsSeenIn (pass_view pass).seen) places.old }
         ensures emptied { All (λ place. place ≡ None) places.new }
     {
         let mut pass = pass;
         for place in places.iter_mut() {
-            pass = self.join(pass, take_pass(place));
+            pass = self.join_one(pass, place);
         }
         pass
+    }
+
+    /// Joins the pass of a place, if there is one, into one that has seen as much.
+    fn join_one(&self, pass: Pass, place: &mut Option<Pass>) -> Pass
+        requires turn { pass_turn pass ≡ turn_id self.now }
+        requires filled { MayHavePass (turn_id self.now) place.old }
+        requires farthest { end_of (place_view place.old) ≤ end_of (pass_view pass) }
+        ensures turn { pass_turn result ≡ turn_id self.now }
+        ensures keeps { Keeps (pass_view pass) (place_view place.old).weight (pass_view result) }
+        ensures seen { (pass_view result).seen ≡ (pass_view pass).seen }
+        ensures joined { IsSeenIn (pass_view pass).seen place.old }
+        ensures emptied { place.new ≡ None }
+    {
+        match place.take() {
+            Some(other) => self.join(pass, other),
+            None => pass,
+        }
+    }
+}
+
+/// Which place has seen most.
+fn farthest(places: &[Option<Pass>]) -> usize
+    requires { 0 < length places.now }
+    ensures within { result < length places.now }
+    ensures farthest { (k : ℕ) (d : Option Pass) → k < length places.now → end_of (place_view (slice_index_or places.now k d)) ≤ end_of (place_view (slice_index_or places.now result d)) }
+{
+    let mut most = 0;
+    for i in 0..places.len() {
+        if seen_to(&places[i]) > seen_to(&places[most]) {
+            most = i;
+        }
+    }
+    most
+}
+
+/// The place in the history up to which the pass has seen it; 0 where there is no pass.
+fn seen_to(place: &Option<Pass>) -> u64
+    ensures { result ≡ end_of (place_view place.now) }
+{
+    match place {
+        Some(pass) => pass.seen_to(),
+        None => 0,
     }
 }

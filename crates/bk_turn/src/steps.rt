@@ -8,22 +8,19 @@ ghost use Rattle.bk_turn.specs.History.{own, own_of, number_at, opening_view};
 ghost use Rattle.bk_turn.specs.Seats.{fresh, seated, IsNoted};
 ghost use Rattle.bk_turn.specs.Steps.{with_stage, found_full, TookTurn};
 
+use crate::patience::Patience;
 use crate::plays::{Adds, Begin, Compare, Draw, Fill, Look, Opens, Serve};
 use crate::seats::{Order, Seated};
 use crate::stands::Stands;
-use std::hint::spin_loop;
 use std::sync::Wait;
 
 pub(crate) type Words<S> = atomic_table::Shared<Option<S>, Seated, u64, Order<S>>;
 
 pub(crate) type Seat<S> = atomic_table::Seat<Option<S>, Seated>;
 
-const SERVING: usize = 0;
+pub(crate) const SERVING: usize = 0;
 
 const TICKET: usize = 1;
-
-/// How often a seat looks again before it sleeps.
-const SPINS: u32 = 300;
 
 /// The first seat takes the empty slot, and knows the opening from now on.
 pub(crate) fn begin<S: Stands, O: Opens>(words: &Words<S>, seat: &mut Seat<S>)
@@ -113,8 +110,7 @@ pub(crate) fn draw<S: Stands, R: Wait>(
     unreachable!()
 }
 
-/// Waits until the seat's ticket is served, and takes the value. It looks again a while, and then
-/// sleeps until the next ticket is served.
+/// Waits until the seat's ticket is served, and takes the value.
 pub(crate) fn wait<S: Stands, R: Wait>(
     rt: &R,
     words: &Words<S>,
@@ -126,24 +122,20 @@ pub(crate) fn wait<S: Stands, R: Wait>(
     ensures table { seat.new.table_id ≡ seat.old.table_id }
     ensures took { TookTurn S.stands ticket seat.old.me.0.view result seat.new.me }
 {
-    let mut spins = 0;
+    let mut patience = Patience::new(ticket);
     for _ in rt.forever() {
         let serving = words.load::<Look>(seat, SERVING);
         if serving == ticket {
             return take(words, seat);
         }
-        if spins < SPINS {
-            spins += 1;
-            spin_loop();
-        } else {
-            words.park(rt, SERVING, (serving % (1 << 32)) as u32);
-        }
+        patience.wait(rt, words, serving);
     }
     unreachable!()
 }
 
 /// Puts the value back and ends the holding with its step. It wakes the others only where a ticket
-/// is out.
+/// is out. The look for them must follow the add: a look before it proves as well, but misses a seat
+/// that draws its ticket in between and then sleeps, and nobody wakes that seat.
 pub(crate) fn serve<S: Stands, A: Adds>(words: &Words<S>, seat: &mut Seat<S>, place: u64, value: S)
     requires table { IsSized words.now.table_id × (seat.old.table_id ≡ words.now.table_id) }
     requires ready { (seat.old.me.0.stage ≡ Holding place) × (seat.old.me.1 ≡ (0, None) ∷ []) }

@@ -15,6 +15,7 @@ use crate::{
     take_pass,
 };
 use std::alloc::Global;
+use std::hint::spin_loop;
 use std::process::Abort;
 use std::sync::Wait;
 use std::test::Fail;
@@ -42,8 +43,22 @@ fn leave_pushed(turn: &Turn<Tally>, holding: Holding<Tally>, number: u64) -> Pas
     turn.leave(holding)
 }
 
-/// Pushes a number in one turn, and says whether it did: not where the tickets are used up.
-fn push<R: Wait + Abort>(rt: &R, turn: &Turn<Tally>, place: &mut Option<Pass>, number: u64) -> bool
+/// Keeps its thread busy for so many spins, of some 5 ns each.
+fn be_busy(spins: u32) {
+    for _ in 0..spins {
+        spin_loop();
+    }
+}
+
+/// Pushes a number in one turn of so many spins, and says whether it did: not where the tickets are
+/// used up.
+fn push<R: Wait + Abort>(
+    rt: &R,
+    turn: &Turn<Tally>,
+    place: &mut Option<Pass>,
+    number: u64,
+    spins: u32,
+) -> bool
     requires { HasPass (turn_id turn.now) place.old }
     ensures turn { HasPass (turn_id turn.now) place.new }
     ensures pushed { OnTrue result (Pushes (place_view place.old) number (place_view place.new)) }
@@ -51,6 +66,7 @@ fn push<R: Wait + Abort>(rt: &R, turn: &Turn<Tally>, place: &mut Option<Pass>, n
 {
     match turn.enter(rt, take_pass(place)) {
         Ok(mut holding) => {
+            be_busy(spins);
             holding.value.numbers.push(number).expect(rt, "memory");
             put_pass(place, leave_pushed(turn, holding, number));
             true
@@ -69,6 +85,7 @@ fn push_all<R: Wait + Abort>(
     place: &mut Option<Pass>,
     from: u64,
     to: u64,
+    spins: u32,
 )
     requires { HasPass (turn_id turn.now) place.old }
     ensures turn { HasPass (turn_id turn.now) place.new }
@@ -76,7 +93,7 @@ fn push_all<R: Wait + Abort>(
     ensures seen { IsPrefix (place_view place.old).seen (place_view place.new).seen }
 {
     for number in from..to {
-        assert!(rt; push(rt, turn, place, number));
+        assert!(rt; push(rt, turn, place, number, spins));
     }
 }
 
@@ -96,8 +113,8 @@ fn opened<R: Abort>(rt: &R, alloc: Global, first: u64) -> Opened<Tally>
 fn an_exhausted_ticket_word_is_spent(rt: HostRuntime) -> Result<(), Fail> {
     let Opened { turn, pass } = opened(&rt, rt.alloc(), u64::MAX);
     let mut place = Some(pass);
-    assert!(rt; !push(&rt, &turn, &mut place, 7));
-    assert!(rt; !push(&rt, &turn, &mut place, 8));
+    assert!(rt; !push(&rt, &turn, &mut place, 7, 0));
+    assert!(rt; !push(&rt, &turn, &mut place, 8, 0));
     let tally = turn.close(place.unwrap());
     assert!(rt; tally.numbers.is_empty());
     Ok(())
@@ -109,8 +126,8 @@ fn split_passes_enter_and_join(rt: HostRuntime) -> Result<(), Fail> {
     let Two { left, right } = turn.split(pass).unwrap();
     let mut left = Some(left);
     let mut right = Some(right);
-    push_all(&rt, &turn, &mut left, 1, 2);
-    push_all(&rt, &turn, &mut right, 2, 4);
+    push_all(&rt, &turn, &mut left, 1, 2, 0);
+    push_all(&rt, &turn, &mut right, 2, 4, 0);
     let left = left.unwrap();
     let right = right.unwrap();
     assert_eq!(rt; (left.seen_to(), right.seen_to()), (1, 3));
@@ -151,42 +168,62 @@ fn push_by_two<R: Threads + Wait + Abort + Sync>(
         &mut ||
             requires { HasPass (turn_id turn.now) left.now }
             ensures { HasPass (turn_id turn.entry.now) left.exit.now × ((place_view left.exit.now).weight ≡ (place_view left.entry.now).weight) }
-        { push_all(rt, turn, left, 0, 1_000) },
+        { push_all(rt, turn, left, 0, 1_000, 0) },
         &mut ||
             requires { HasPass (turn_id turn.now) right.now }
             ensures { HasPass (turn_id turn.entry.now) right.exit.now × ((place_view right.exit.now).weight ≡ (place_view right.entry.now).weight) }
-        { push_all(rt, turn, right, 1_000, 2_000) },
+        { push_all(rt, turn, right, 1_000, 2_000, 0) },
     );
 }
 
 #[test]
 fn eight_threads_push_and_all_passes_come_back(rt: HostRuntime) -> Result<(), Fail> {
-    let Opened { turn, pass } = opened(&rt, rt.alloc(), 1);
-    let mut places = empty_places(rt.alloc(), 8).expect(&rt, "memory");
-    let pass = push_by_eight(&rt, &turn, pass, places.as_mut_slice());
+    push_by_many(&rt, rt.alloc(), 8, 0)
+}
+
+// More threads than a small machine has processors, and holdings longer than the looks at the
+// ticket: the threads sleep, and each is woken.
+#[test]
+fn sixteen_threads_sleep_and_are_woken(rt: HostRuntime) -> Result<(), Fail> {
+    push_by_many(&rt, rt.alloc(), 16, 5_000)
+}
+
+/// Pushes a hundred numbers in each of at most 16 threads, and finds them all.
+fn push_by_many<R: Threads + Wait + Abort + Sync>(
+    rt: &R,
+    alloc: Global,
+    threads: usize,
+    spins: u32,
+) -> Result<(), Fail> {
+    let threads = threads.min(16);
+    let count = 100 * threads as u64;
+    let Opened { turn, pass } = opened(rt, alloc, 1);
+    let mut places = empty_places(alloc, threads).expect(rt, "memory");
+    let pass = push_by_all(rt, &turn, pass, places.as_mut_slice(), spins);
     drop_places(places);
-    assert_eq!(rt; pass.seen_to(), 801);
+    assert_eq!(rt; pass.seen_to(), count + 1);
     let mut tally = turn.close(pass);
     tally.numbers.sort()?;
-    let wanted: Vec<u64> = (0..800u64).collect(rt.alloc())?;
+    let wanted: Vec<u64> = (0..count).collect(alloc)?;
     assert_eq!(rt; tally.numbers, wanted);
     Ok(())
 }
 
-fn push_by_eight<R: Threads + Wait + Abort + Sync>(
+fn push_by_all<R: Threads + Wait + Abort + Sync>(
     rt: &R,
     turn: &Turn<Tally>,
     pass: Pass,
     places: &mut [Option<Pass>],
+    spins: u32,
 ) -> Pass
     requires turn { pass_turn pass ≡ turn_id turn.now }
-    requires places { All (λ place. place ≡ None) places.old × (length places.old ≡ 8) × (8 < (pass_view pass).weight) }
+    requires places { All (λ place. place ≡ None) places.old × (length places.old ≤ 16) × (16 < (pass_view pass).weight) }
     ensures turn { pass_turn result ≡ turn_id turn.now }
     ensures weight { (pass_view result).weight ≡ (pass_view pass).weight }
     ensures emptied { All (λ place. place ≡ None) places.new }
 {
     let pass = turn.split_into(pass, places);
-    push_by_each(rt, turn, places);
+    push_by_each(rt, turn, places, spins);
     turn.join_from(pass, places)
 }
 
@@ -194,21 +231,22 @@ fn push_by_each<R: Threads + Wait + Abort + Sync>(
     rt: &R,
     turn: &Turn<Tally>,
     places: &mut [Option<Pass>],
+    spins: u32,
 )
-    requires { All (HasPass (turn_id turn.now)) places.old × (length places.old ≡ 8) }
+    requires { All (HasPass (turn_id turn.now)) places.old × (length places.old ≤ 16) }
     ensures turn { All (HasPass (turn_id turn.now)) places.new }
     ensures weight { (i : ℕ) (d : Option Pass) → i < length places.old → (place_view (slice_index_or places.new i d)).weight ≡ (place_view (slice_index_or places.old i d)).weight }
 {
     for_each_mut(
         rt,
         places,
-        8,
+        16,
         &|i: usize, place: &mut Option<Pass>|
-            requires { HasPass (turn_id turn.now) place.old × (i < 8) }
+            requires { HasPass (turn_id turn.now) place.old × (i < 16) }
             ensures { HasPass (turn_id turn.entry.now) place.new × ((place_view place.new).weight ≡ (place_view place.old).weight) }
         {
             let from = 100 * i as u64;
-            push_all(rt, turn, place, from, from + 100)
+            push_all(rt, turn, place, from, from + 100, spins)
         },
     );
 }
@@ -259,6 +297,6 @@ fn split_beside_pushes<R: Threads + Wait + Abort + Sync>(
         &mut ||
             requires { HasPass (turn_id turn.now) right.now }
             ensures { HasPass (turn_id turn.entry.now) right.exit.now × ((place_view right.exit.now).weight ≡ (place_view right.entry.now).weight) }
-        { push_all(rt, turn, right, 0, 500) },
+        { push_all(rt, turn, right, 0, 500, 0) },
     );
 }

@@ -5,18 +5,16 @@ use Rattle.bk_turn.proofs.Rows.{splits_weigh, splits_are_passes, weights_kept}
 use Rattle.bench_turn.proofs.turns.hold_in_all.Goals as goal
 
 pub hold_in_each-requires : goal.hold_in_each-requires
-hold_in_each-requires g c = (
+hold_in_each-requires g c = let split = c.split_into-pass in (
   c.type_bounds.sync-R,
   splits_are_passes (turn_id c.args.turn.now) (pass_view c.args.pass)
-      c.split_into-pass.new.places c.split_into-pass.ensures.given,
+      split.new.places split.ensures.given,
 )
 
 pub returns-clause-weight : goal.returns-clause-weight
-returns-clause-weight g c = let w =
-    splits_weigh (turn_id c.args.turn.now) (pass_view c.args.pass) c.split_into-pass.new.places
-    c.split_into-pass.ensures.given in
-    let kept : (pass_view c.split_into-pass.result).weight ≡ (pass_view c.args.pass).weight - length
-    c.args.places.now = ap (λ (v : View). v.weight) c.split_into-pass.ensures.kept in
-    let j = c.join_from.ensures.weight in let p =
-    weights_kept c.split_into-pass.new.places c.hold_in_each.new.places c.hold_in_each.auto.places
-    c.hold_in_each.ensures.weight in omega arith
+returns-clause-weight g c = let split = c.split_into-pass in let each = c.hold_in_each in
+    let w = splits_weigh (turn_id c.args.turn.now) (pass_view c.args.pass) split.new.places split.ensures.given in
+    let kept : (pass_view split.result).weight ≡ (pass_view c.args.pass).weight - length c.args.places.now
+    = ap (λ (v : View). v.weight) split.ensures.kept in
+    let joined = c.join_from.ensures.keeps.weighs in
+    let p = weights_kept split.new.places each.new.places each.auto.places each.ensures.weight in omega arith

@@ -8,5 +8,6 @@ join_seat-requires g c = let left = c.seat_of_pass-seat.ensures in let right = c
   right.table ∙ c.requires.turns.1,
   ap (λ m. m.1) right.seat,
   omega (arith, c.args.self.now.sized.0),
-  joins g.S.Stands.stands c.args.self.now.table.shared.key _ c.seat_of_pass-seat.result.me.0 _ c.seat_of_pass.result.me.0 left.idle right.idle,
+  joins g.S.Stands.stands c.args.self.now.table.shared.key _ c.seat_of_pass-seat.result.me.0 _
+      c.seat_of_pass.result.me.0 left.idle right.idle,
 )
