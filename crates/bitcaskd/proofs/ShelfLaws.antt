@@ -9,7 +9,7 @@ use Rattle.bk_base.specs.declared.writes.Write.{Write}
 use Rattle.bk_disk.specs.Names.{same}
 use Rattle.bk_disk.specs.Told.{Table, Image, Told, at, bytes_of, changed, with_name, IsAbsent}
 use Rattle.bk_disk.specs.Calls.{Appended, Synced, Made, Cut, all_synced, fresh, pending_more}
-use Rattle.bk_disk.specs.Stops.{front_of}
+use Rattle.bk_disk.specs.Crashes.{front_of}
 use Rattle.bk_disk.proofs.Names.{same_eq, same_refl}
 use Rattle.bk_disk.proofs.Files.{there-changed, bytes_of-changed, bytes_of-changed_other}
 use Rattle.bk_disk.proofs.Tables.{at-with_name, at-with_name_other}

@@ -9,7 +9,7 @@ use Rattle.bk_base.specs.declared.numbers.Seq.{Seq}
 use Rattle.bk_base.specs.declared.writes.Write.{Write}
 use Rattle.bk_base.specs.declared.writes.Body.TheVariants.{Put}
 use Rattle.bk_disk.specs.Told.{Table, Image, Told, IsWell, at, names, bytes_of}
-use Rattle.bk_disk.specs.Stops.{IsSynced}
+use Rattle.bk_disk.specs.Crashes.{IsSynced}
 use Rattle.bk_files.specs.Catalog.{Known, id_of, main}
 use Rattle.bk_files.specs.Files.{HalfRepaired, IsConsistentWith, Repaired, RepairedOf, Seen, SettledOf, Synchronized, name_of}
 use Rattle.bk_record.proofs.Codec.{length-record_of}

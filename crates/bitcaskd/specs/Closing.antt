@@ -3,7 +3,7 @@ use Rattle.std.specs.Prelude.{◌≡◌, ◌⊎◌, ℕ, Bool, IsTrue}
 use Rattle.bk_base.specs.declared.statuses.Status.{Status}
 use Rattle.bk_base.specs.declared.statuses.Status.TheVariants.{Done, Disk, NotBuilt}
 use Rattle.bk_disk.specs.Causes.{Rose}
-use Rattle.bk_disk.specs.Stops.{IsSynced}
+use Rattle.bk_disk.specs.Crashes.{IsSynced}
 use Rattle.bk_disk.specs.Told.{Told}
 
 -- a run that ended so is synced

@@ -9,7 +9,7 @@ use Rattle.bk_base.specs.declared.statuses.Status.{Status}
 use Rattle.bk_base.specs.declared.statuses.Status.TheVariants.{Done, Memory, Disk, Source, Sink, Long, NotBuilt}
 use Rattle.bk_base.specs.declared.writes.Write.{Write}
 use Rattle.bk_disk.specs.Causes.{Rose}
-use Rattle.bk_disk.specs.Stops.{IsSynced}
+use Rattle.bk_disk.specs.Crashes.{IsSynced}
 use Rattle.bk_disk.specs.Told.{Image, Told}
 use Rattle.bk_laws.specs.History.{IsLegalHistory, log_of}
 use Rattle.bk_laws.specs.Wire.{IsPartial, NoneStands}

@@ -1,7 +1,7 @@
 //! The store: its data files, and a table from each key to the place of its newest value in them.
 ghost use Rattle.std.specs.Prelude.{◌≡◌, ◌+◌, ◌*◌, ◌^◌, ◌<◌, ◌≤◌, ◌⊎◌, ◌∷◌, ◌++◌, ℕ, [], None, length, take, true, false, IsTrue, OnOk, IfOk, OnErr, IfErr, IsErrOf};
 ghost use Rattle.bk_disk.specs.Causes.{IsCaused, Rose};
-ghost use Rattle.bk_disk.specs.Stops.{IsSynced};
+ghost use Rattle.bk_disk.specs.Crashes.{IsSynced};
 ghost use Rattle.bk_files.specs.Catalog.{id_of};
 ghost use Rattle.bk_disk.specs.Counts.{Counts};
 ghost use Rattle.bitcaskd.specs.Index.{look};

@@ -1,3 +1,4 @@
 pub mod Bytes
 pub mod FixedWidth
 pub mod NameTexts
+pub mod Places

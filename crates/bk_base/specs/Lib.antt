@@ -2,3 +2,4 @@ pub mod Blanks
 pub mod Bounds
 pub mod Names
 pub mod Status
+pub mod Places

@@ -9,7 +9,7 @@ use Rattle.bk_base.specs.declared.names.Name.{Name}
 use Rattle.bk_disk.specs.Names.{same}
 use Rattle.bk_disk.specs.Told.{Table, Image, Front, Told, at, names, IsOnce, without, renamed}
 use Rattle.bk_disk.specs.Calls.{Removed, Renamed}
-use Rattle.bk_disk.specs.Stops.{MayLeave, FileMayLeave, Keeps, front_of, IsSynced}
+use Rattle.bk_disk.specs.Crashes.{MayLeave, FileMayLeave, Keeps, front_of, IsSynced}
 use Rattle.bk_disk.specs.Well.{is_well}
 use Rattle.bk_disk.proofs.Tables.{has, is_some-at}
 use Rattle.bk_disk.proofs.Unique.{from_test, to_test}

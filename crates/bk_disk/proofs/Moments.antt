@@ -3,7 +3,7 @@ use Rattle.std.proofs.Common.{◌≡◌, ℕ, ◌≤◌, ◌⊎◌, List, [], �
 use Rattle.std.proofs.lemmas.List.{get_or_past, get_or_append_left, get_or_default, get_or_push, take_all}
 use Rattle.std.proofs.lemmas.Bool.{cases_lt}
 use Rattle.bk_disk.specs.Told.{Table, Image, Front, Told, clock}
-use Rattle.bk_disk.specs.Stops.{AtEach, MayLeaveSince, MayLeave, MayLeaveNow, fronts_at, front_of, IsSynced, Keeps}
+use Rattle.bk_disk.specs.Crashes.{AtEach, MayLeaveSince, MayLeave, MayLeaveNow, fronts_at, front_of, IsSynced, Keeps}
 use Rattle.bk_disk.specs.Calls.{Passes}
 
 -- the last moment's fronts are those of now

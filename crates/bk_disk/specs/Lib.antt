@@ -3,6 +3,6 @@ pub mod Counts
 pub mod Streams
 pub mod Names
 pub mod Told
-pub mod Stops
+pub mod Crashes
 pub mod Calls
 pub mod Well

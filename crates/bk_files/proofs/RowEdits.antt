@@ -5,28 +5,16 @@ use Rattle.std.specs.declared.option.Option.TheVariants.{None, Some}
 use Rattle.std.proofs.lemmas.Bool.{cases_Bool}
 use Rattle.std.proofs.lemmas.Iterator.Adapters.{position_from-zero}
 use Rattle.bk_base.specs.declared.rows.Row.{Row}
+use Rattle.bk_base.specs.Places.{IsFirstOf}
+use Rattle.bk_base.proofs.Places.{found as first_found}
 use Rattle.bk_files.specs.Catalog.{edited, edited_at, row_of}
 
+-- the first row of a file stands at this place
 abbrev IsFirst : ℕ → List Row → ℕ → Type 0
-IsFirst id [] i = ⊥
-IsFirst id (r ∷ rs) zero = (r.id.0 == id) ≡ true
-IsFirst id (r ∷ rs) (suc i) = ((r.id.0 == id) ≡ false) × IsFirst id rs i
-
-found_from : (id j i : ℕ) (rows : List Row) → position_from (λ r. r.id.0 == id) j rows ≡ Some i
-    → (k : ℕ) × (i ≡ j + k) × IsFirst id rows k
-found_from id j i [] h = absurd (cc h)
-found_from id j i (r ∷ rs) h =
-    elim (cases_Bool (r.id.0 == id)) [
-      | inl p ↦ let is : Some j ≡ Some i = rw p at h in let same_place : i ≡ j =
-          cc is in (0, omega (arith, same_place), p)
-      | inr p ↦ let k = found_from id (j + 1) i rs (rw p at h) in (suc k.0, omega (arith, k.1), (p, k.2))
-    ]
+IsFirst id rows i = IsFirstOf (λ (r : Row). r.id.0 == id) rows i
 
 found : (id : ℕ) (rows : List Row) (i : ℕ) → position (λ r. r.id.0 == id) rows ≡ Some i → IsFirst id rows i
-found id rows i is =
-    let k = found_from id 0 i rows (sym (position_from-zero (λ (r : Row). r.id.0 == id) rows) ∙ is) in
-    let at_place : k.0 ≡ i = omega (arith, k.1) in
-    subst (λ j. IsFirst id rows j) at_place k.2
+found id rows i is = first_found (λ (r : Row). r.id.0 == id) rows i is
 
 first_edited : (id : ℕ) (f : Row → Row) (rows : List Row) (i : ℕ) (x : Row) → IsFirst id rows i
     → x ≡ slice_index_or rows i x → slice_set rows i (f x) ≡ edited id f rows

@@ -14,7 +14,7 @@ use Rattle.bk_record.proofs.Codec.{length-record_of}
 use Rattle.bk_files.proofs.FirstRecords.{all_fit, records_of-more}
 use Rattle.bk_disk.specs.Names.{same}
 use Rattle.bk_disk.specs.Told.{Front, Told, at, bytes_of, IsOurs}
-use Rattle.bk_disk.specs.Stops.{front_of}
+use Rattle.bk_disk.specs.Crashes.{front_of}
 use Rattle.bk_disk.specs.Calls.{Appended, Cut, Made, Synced, all_synced, fresh, pending_more}
 use Rattle.bk_disk.proofs.Tables.{at-changed_other, at-with_name_other}
 use Rattle.bk_files.specs.declared.catalog.Active.{Active}

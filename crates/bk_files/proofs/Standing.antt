@@ -12,7 +12,7 @@ use Rattle.bk_base.specs.declared.names.Name.{Name}
 use Rattle.bk_base.specs.declared.rows.Row.{Row}
 use Rattle.bk_disk.specs.Names.{same}
 use Rattle.bk_disk.specs.Told.{Table, Front, Told, at, bytes_of, with_name, IsAbsent, IsOurs, IsWell}
-use Rattle.bk_disk.specs.Stops.{front_of}
+use Rattle.bk_disk.specs.Crashes.{front_of}
 use Rattle.bk_disk.specs.Calls.{Appended, Synced, Cut, Made, all_synced, fresh, pending_more, viewed}
 use Rattle.bk_disk.proofs.Names.{same_eq}
 use Rattle.bk_disk.proofs.Files.{appended_ours, appended_bytes, appended_whole, cut_bytes, cut_ours, synced_ours, there_in_both}

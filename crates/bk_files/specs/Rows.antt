@@ -6,7 +6,7 @@ use Rattle.bk_base.specs.declared.rows.RowState.TheVariants.{Active as active_st
 use Rattle.bk_base.specs.declared.writes.Write.{Write}
 use Rattle.bk_laws.specs.Record.{AreRecords, IsWritable, record_of, records_of}
 use Rattle.bk_disk.specs.Told.{Told, at, bytes_of, IsOurs}
-use Rattle.bk_disk.specs.Stops.{front_of}
+use Rattle.bk_disk.specs.Crashes.{front_of}
 use Rattle.bk_files.specs.declared.catalog.Active.{Active}
 use Rattle.bk_files.specs.Catalog.{main}
 

@@ -10,11 +10,10 @@ ghost use Rattle.bk_files.specs.Files.{HalfRepaired, HalfRolled, IsConsistent, I
 
 use crate::catalog::{Catalog, name_of};
 use crate::errors::RollError;
+use bk_base::limits::LAST_FILE;
 use bk_base::{FileId, Memory, Row};
 use bk_disk::{Disk, DiskError, Failed};
 use std::marker::Model;
-
-const LAST_FILE: u32 = 4_294_967_294;
 
 /// The data files of a store. One of them may be active: texts are appended to it until the next
 /// would pass the limit, and then the store rolls to a new one. A row of a file that isn't appended
@@ -204,7 +203,7 @@ impl<D: Disk> Files<D> {
     pub fn roll(&mut self) -> Result<(), RollError>
         requires consistent { IsTrue D.tells → IsConsistent self.old }
         requires whole { is_torn self.old ≡ false }
-        ensures full { IsErrOf result RollError.FullFiles ↔ (4294967294 ≤ last_of self.old) }
+        ensures full { IsErrOf result RollError.FullFiles ↔ (LAST_FILE ≤ last_of self.old) }
         ensures ok { OnOk result (Begins self.old.catalog self.new.catalog) }
         ensures err { OnErr result (self.new.catalog ≡ self.old.catalog) }
         ensures rolled { IsTrue D.tells → OnOk result (Rolled self.old self.new) }

@@ -12,7 +12,7 @@ use Rattle.std.proofs.lemmas.Bool.{cases_lt}
 use Rattle.bk_base.specs.declared.names.Name.{Name}
 use Rattle.bk_disk.specs.Names.{same}
 use Rattle.bk_disk.specs.Told.{Table, Image, Told, at, names, IsOnce, IsNotIn}
-use Rattle.bk_disk.specs.Stops.{Keeps, MayLeave, front_of, IsSynced}
+use Rattle.bk_disk.specs.Crashes.{Keeps, MayLeave, front_of, IsSynced}
 use Rattle.bk_disk.proofs.Names.{same_sym}
 use Rattle.bk_disk.proofs.Tables.{has, is_some-at}
 use Rattle.bk_disk.proofs.Leaves.{whole_fronts}

@@ -7,6 +7,7 @@ use Rattle.std.specs.Option.{IsSome}
 use Rattle.std.proofs.lemmas.Bool.{cases_Bool}
 use Rattle.std.proofs.lemmas.Iterator.Adapters.{position_from-zero}
 use Rattle.bk_base.specs.declared.names.Name.{Name}
+use Rattle.bk_base.proofs.Places.{found as first_found}
 use Rattle.bk_disk.specs.Names.{same}
 use Rattle.bk_disk.specs.Told.{Table, at, names, changed, without, renamed}
 use Rattle.bk_disk.proofs.Names.{same_eq}
@@ -14,23 +15,10 @@ use Rattle.bk_memdisk.specs.declared.files.MemFile.{MemFile}
 use Rattle.bk_memdisk.specs.Journal.{Kept}
 use Rattle.bk_memdisk.specs.Fits.{IsFirst, Fits, Tied, image_of}
 
-found_from : (name : Name) (j i : ℕ) (files : List MemFile)
-    → position_from (λ f. same name f.name) j files ≡ Some i → (k : ℕ) × (i ≡ j + k) × IsFirst name files k
-found_from name j i [] h = absurd (cc h)
-found_from name j i (f ∷ fs) h =
-    elim (cases_Bool (same name f.name)) [
-      | inl p ↦ let is : Some j ≡ Some i = rw p at h in let same_place : i ≡ j =
-          cc is in (0, omega (arith, same_place), p)
-      | inr p ↦ let k = found_from name (j + 1) i fs (rw p at h) in (suc k.0, omega (arith, k.1), (p, k.2))
-    ]
-
 -- what a search found
 pub found : (name : Name) (files : List MemFile) (i : ℕ)
     → position (λ f. same name f.name) files ≡ Some i → IsFirst name files i
-found name files i is =
-    let k = found_from name 0 i files (sym (position_from-zero (λ (f : MemFile). same name f.name) files) ∙ is) in
-    let at_place : k.0 ≡ i = omega (arith, k.1) in
-    subst (λ j. IsFirst name files j) at_place k.2
+found name files i is = first_found (λ (f : MemFile). same name f.name) files i is
 
 pub first_below : (name : Name) (files : List MemFile) (i : ℕ) → IsFirst name files i → i < length files
 first_below name [] i h = absurd h

@@ -2,7 +2,7 @@
 use Rattle.std.specs.Prelude.{ℕ, ◌≤◌, cond, List, [], ◌∷◌, ◌++◌, is_some, unwrap_or}
 use Rattle.bk_base.specs.declared.names.Name.{Name}
 use Rattle.bk_disk.specs.Told.{Table, Told, at, changed}
-use Rattle.bk_disk.specs.Stops.{front_of}
+use Rattle.bk_disk.specs.Crashes.{front_of}
 use Rattle.bk_disk.specs.Calls.{Becomes}
 
 pub record Contents : Type 0 where

@@ -1,6 +1,6 @@
 -- How a file in memory stands for what the journal says of it.
 use Rattle.std.specs.Prelude.{◌≡◌, ℕ, ◌+◌, ◌≤◌, true, false, cond, List, [], ◌∷◌, length, take, map, nat_lt}
-use Rattle.std.proofs.Common.{zero, suc}
+use Rattle.bk_base.specs.Places.{IsFirstOf}
 use Rattle.bk_base.specs.declared.names.Name.{Name}
 use Rattle.bk_disk.specs.Names.{same}
 use Rattle.bk_disk.specs.Told.{Table, Image}
@@ -37,6 +37,4 @@ Tied (f ∷ fs) (e ∷ es) = (f.name ≡ e.0) × Fits f e.1 × Tied fs es
 
 -- the first file of this name stands there
 abbrev pub IsFirst : Name → List MemFile → ℕ → Type 0
-IsFirst name [] i = ⊥
-IsFirst name (f ∷ fs) zero = same name f.name ≡ true
-IsFirst name (f ∷ fs) (suc i) = (same name f.name ≡ false) × IsFirst name fs i
+IsFirst name files i = IsFirstOf (λ (f : MemFile). same name f.name) files i

@@ -1,7 +1,7 @@
 -- What the journal of a disk in memory says of each file: its bytes, and what a crash may leave of it.
 use Rattle.std.specs.Prelude.{ℕ, Bool, List, [], ◌∷◌, ◌++◌, length, take, map}
 use Rattle.bk_disk.specs.Told.{Table, Front, changed, with_name, without, renamed}
-use Rattle.bk_disk.specs.Stops.{front_of}
+use Rattle.bk_disk.specs.Crashes.{front_of}
 use Rattle.bk_disk.specs.Calls.{pending_more, all_synced, fresh, brought_back}
 use Rattle.bk_memdisk.specs.declared.changes.Change.{Change}
 use Rattle.bk_memdisk.specs.declared.changes.Change.TheVariants.{Made, Handed, Synced, Returned, Placed, Renamed, Removed}

@@ -6,7 +6,7 @@ ghost use Rattle.std.specs.Prelude.{◌↔◌};
 ghost use Rattle.bk_disk.specs.Names.{same};
 ghost use Rattle.bk_disk.specs.Told.{nothing_told, names, IsOnce, at, bytes_of, listing, IsOurs};
 ghost use Rattle.bk_disk.specs.Told.{IsLent, IsOneThere, is_within, range_of, CutsWithin, IsWithin};
-ghost use Rattle.bk_disk.specs.Stops.{MayLeave, IsSynced};
+ghost use Rattle.bk_disk.specs.Crashes.{MayLeave, IsSynced};
 ghost use Rattle.bk_memdisk.specs.Crash.{crashed};
 ghost use Rattle.bk_memdisk.specs.Contents.{room_of, KeepsRooms, Placed};
 ghost use Rattle.bk_memdisk.specs.Fits.{IsFirst, image_of};

@@ -30,7 +30,7 @@ pub struct MemDisk {
 
 impl MemDisk {
     ghost use Rattle.bk_disk.specs.Told.{nothing_told, at};
-    ghost use Rattle.bk_disk.specs.Stops.{MayLeaveNow, IsSynced};
+    ghost use Rattle.bk_disk.specs.Crashes.{MayLeaveNow, IsSynced};
     ghost use Rattle.bk_memdisk.specs.Contents.{Placed, room_of};
     ghost use Rattle.bk_base.specs.declared.names.Name.{Name};
     ghost use Rattle.bk_disk.specs.Names.{same};

@@ -8,6 +8,7 @@ use crate::openings::{Unopened, joined, open_folder, open_regular, options_for, 
 use crate::outs::OsOut;
 use crate::syncs::{FailedSyncs, sync_once};
 use crate::views::OsView;
+use bk_base::limits::LAST_FILE;
 use bk_base::{Kind, Name};
 use bk_disk::Listed;
 use std::alloc::{Alloc, Global};
@@ -16,8 +17,6 @@ use std::fs::{File, Files, OpenOptions, ReadDir};
 use std::io::{ErrorKind, Write};
 use std::sync::Arc;
 use std::{fs, io};
-
-const LAST_FILE_NUMBER: u32 = 4_294_967_294;
 
 /// How many files are held open beside those that views and lent files hold.
 const MOST_OPEN: usize = 256;
@@ -259,7 +258,7 @@ fn is_listed(name: Name) -> bool
 {
     match name.kind {
         Kind::Settings => name.id == 0,
-        _ => name.id >= 1 && name.id <= LAST_FILE_NUMBER,
+        _ => name.id >= 1 && name.id <= LAST_FILE,
     }
 }
 

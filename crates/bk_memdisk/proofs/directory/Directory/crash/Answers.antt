@@ -2,7 +2,7 @@ use Rattle.std.proofs.Common.{◌∙◌, ◌++◌, ◌∷◌, [], ap, sym, subst
 use Rattle.std.specs.Option.{is_some}
 use Rattle.std.proofs.lemmas.List.{take_all}
 use Rattle.bk_disk.specs.Told.{IsOnce, names, at}
-use Rattle.bk_disk.specs.Stops.{MayLeave}
+use Rattle.bk_disk.specs.Crashes.{MayLeave}
 use Rattle.bk_memdisk.specs.Contents.{Contents}
 use Rattle.bk_memdisk.specs.Journal.{after_all, fronts_of}
 use Rattle.bk_memdisk.proofs.Left

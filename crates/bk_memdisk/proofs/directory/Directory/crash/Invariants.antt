@@ -1,5 +1,5 @@
 use Rattle.std.proofs.Common.{◌≡◌, take}
-use Rattle.bk_disk.specs.Stops.{IsSynced}
+use Rattle.bk_disk.specs.Crashes.{IsSynced}
 use Rattle.bk_memdisk.proofs.Left.{image_left, AreAllBytes}
 use Rattle.bk_memdisk.proofs.directory.Directory.crash.Given as goal
 

@@ -1,5 +1,5 @@
 use Rattle.std.proofs.Common.{[], sym, ◌∙◌, ap, arith, refl, inr}
-use Rattle.bk_disk.specs.Stops.{front_of}
+use Rattle.bk_disk.specs.Crashes.{front_of}
 use Rattle.bk_memdisk.specs.declared.changes.Change.TheVariants.{Placed}
 use Rattle.bk_memdisk.specs.Contents.{placed}
 use Rattle.bk_memdisk.specs.Journal.{whole, after_all}
