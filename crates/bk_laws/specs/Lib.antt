@@ -4,3 +4,4 @@ pub mod Wire
 pub mod Session
 pub mod Record
 pub mod Version
+pub mod SwapList

@@ -1,0 +1,4 @@
+pub mod Bytes
+pub mod Ids
+pub mod Stopping
+pub mod Texts
