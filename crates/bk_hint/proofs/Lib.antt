@@ -1,0 +1,10 @@
+pub mod Bytes
+pub mod Heads
+pub mod RowTexts
+pub mod HintTexts
+pub mod Walks
+pub mod Answering
+pub mod RowsLeftBehind
+pub mod Adding
+pub mod RecordBytes
+pub mod RoundTrips
