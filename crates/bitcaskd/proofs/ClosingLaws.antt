@@ -2,6 +2,7 @@
 use Rattle.std.proofs.Common.{◌≡◌, ◌∙◌, ℕ, ◌-◌, ◌≤◌, List, [], ◌∷◌, ◌++◌, length, drop, Bool, ◌⊎◌, refl, sym, ap, subst, arith, inl, inr, IsTrue}
 use Rattle.std.proofs.lemmas.List.{append-nil}
 use Rattle.std.proofs.lemmas.Bool.{cases_lt}
+use Rattle.bk_base.specs.declared.limits.TheConstants.{DEFAULT_MAX_FILE}
 use Rattle.bk_base.specs.declared.calls.Call.TheVariants.{Sync, Quiet}
 use Rattle.bk_base.specs.declared.calls.Answer.TheVariants.{Numbered, Done as done_answer}
 use Rattle.bk_base.specs.declared.histories.Opening.{Opening}
@@ -27,7 +28,7 @@ use Rattle.bitcaskd.proofs.TalkingLaws.{at_site, leads_on, counts_on}
 
 opening_of : Scene → Opening
 opening_of start = record blank_opening {
-  settings = record blank_settings { max_file = 67108864 };
+  settings = record blank_settings { max_file = DEFAULT_MAX_FILE };
   faults = start.site.faults;
   views = start.site.views;
 }

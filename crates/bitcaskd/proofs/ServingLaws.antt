@@ -21,7 +21,7 @@ use Rattle.bk_laws.specs.Wire.{request_text}
 use Rattle.bitcaskd.specs.Counts.{Counted, Counts}
 use Rattle.bitcaskd.specs.Serving.{Site, Leads, Served, Refused}
 use Rattle.bitcaskd.specs.Store.{Holds, IsImageOf, KeepsLog, PutDone, GetDone, put_of}
-use Rattle.bk_files.specs.declared.catalog.Catalog.{Catalog}
+use Rattle.bk_files.specs.Catalog.{Known}
 use Rattle.bitcaskd.specs.Shelf.{FitsWithin}
 use Rattle.bitcaskd.proofs.ShelfLaws.{fits_more}
 use Rattle.bitcaskd.proofs.StoreLaws.{image_of}
@@ -120,7 +120,7 @@ unfolding request_text
 put-small key value = simp length-append (omega arith)
 
 -- so the files after a put are no more than its request allows
-pub put-fits : (key value : List ℕ) (request : Request) (c d : Catalog) → request ≡ Put key value
+pub put-fits : (key value : List ℕ) (request : Request) (c d : Known) → request ≡ Put key value
     → ((most : ℕ) → FitsWithin most c → FitsWithin (most + 2 * (22 + length key + length value)) d)
     → (most : ℕ) → FitsWithin most c → FitsWithin (most + 46 * length (request_text request)) d
 put-fits key value request c d is more most h =

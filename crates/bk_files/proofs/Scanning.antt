@@ -8,8 +8,9 @@ use Rattle.bk_base.specs.declared.writes.Write.{Write}
 use Rattle.bk_laws.specs.Record.{NoRecord, RecordStands, size_of}
 use Rattle.bk_record.specs.declared.header.Header.{Header}
 use Rattle.bk_record.specs.Header.{IsSound, header_of, said_size}
-use Rattle.bk_record.specs.Stops.{IsDecoded}
+use Rattle.bk_record.specs.Stops.{IsDecoded, IsKeyDecoded}
 use Rattle.bk_record.specs.declared.decoding.Decoded.{Decoded}
+use Rattle.bk_record.specs.declared.decoding.DecodedKey.{DecodedKey}
 use Rattle.bk_record.proofs.Codec.{header_of-take, reads}
 use Rattle.bk_record.proofs.FileRecords.{stands-front, stands-more}
 use Rattle.bk_files.specs.Scan.{IsHopeless, IsNeeded, IsSettled}
@@ -55,6 +56,9 @@ none_stands held unread none settled left len w rest stands = none w _ (held_who
 
 pub decoded_within : (held : List ℕ) (d : Decoded) → IsDecoded held d → d.size ≤ length held
 decoded_within held d is = omega (arith, is.size, (reads held d.write _ is.stands).long)
+
+pub key_within : (held : List ℕ) (d : DecodedKey) → IsKeyDecoded held d → d.size ≤ length held
+key_within held d is = omega (arith, ap (λ (x : DecodedKey). x.size) is.says, (reads held is.write _ is.stands).long)
 
 pub found_there : (items left : List ℕ) (from : ℕ) (d : Decoded) → IsDecoded (drop from items) d
     → RecordStands (drop from items ++ left) d.write (drop (from + d.size) items ++ left)

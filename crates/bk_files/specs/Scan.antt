@@ -5,7 +5,9 @@ use Rattle.bk_base.specs.declared.numbers.FileId.{FileId}
 use Rattle.bk_base.specs.declared.writes.Write.{Write}
 use Rattle.bk_disk.specs.Causes.{Rose}
 use Rattle.bk_laws.specs.Record.{IsWritable, NoRecord, RecordStands, checksum_of, records_of, size_of}
+use Rattle.bk_laws.specs.Version.{version_at}
 use Rattle.bk_files.specs.declared.scan.Found.{Found}
+use Rattle.bk_files.specs.declared.scan.FoundKey.{FoundKey}
 use Rattle.bk_files.specs.declared.scan.ScanError.{ScanError}
 use Rattle.bk_files.specs.declared.scan.ScanError.TheVariants.{Read}
 
@@ -65,6 +67,30 @@ abbrev pub Placed : Option Found → ℕ → ℕ → Type 0
 Placed (Some f) before now = IsFound f before now
 Placed None before now = now ≡ before
 
+-- what was found without its value is said of some write, and the scan goes on behind its record
+pub record IsFoundKey (f : FoundKey) (before : Scanned) (now : ℕ) : Type 0 where
+  pub write : Write
+  pub fits : IsWritable write
+  pub key : f.key ≡ write.key
+  pub version : f.version ≡ version_at before.file before.place write
+  pub behind : now ≡ before.place + f.version.size
+
+abbrev pub PlacedKey : Option FoundKey → Scanned → ℕ → Type 0
+PlacedKey (Some f) before now = IsFoundKey f before now
+PlacedKey None before now = now ≡ before.place
+
+-- The record at the front of the text was found without its value, and the rest is left. So `next`
+-- finds the same write there.
+pub record FindsWrite (f : FoundKey) (before : Scanned) (text rest : List ℕ) : Type 0 where
+  pub write : Write
+  pub stands : RecordStands text write rest
+  pub key : f.key ≡ write.key
+  pub version : f.version ≡ version_at before.file before.place write
+
+abbrev pub FindsKey : Option FoundKey → Scanned → List ℕ → List ℕ → Type 0
+FindsKey (Some f) before text rest = FindsWrite f before text rest
+FindsKey None before text rest = NoRecord text × (rest ≡ text)
+
 -- a view tells the bytes that it has left, and they are as many as it says
 pub record IsTold (tells : Bool) (bytes : List ℕ) (size : ℕ) : Type 0 where
   pub shown : IsTrue tells
@@ -77,8 +103,9 @@ pub record HasReadCause {T : Type 0} (before now : ℕ) (was_fallible is_fallibl
   pub fallible : is_fallible ≡ was_fallible
   pub failed : IsErrOf result Read → Rose before now × (was_fallible ≡ true)
 
--- The first records of the text are those of these writes, they end at this place, and the rest follows.
-pub record AreFirst (text : List ℕ) (writes : List Write) (end : ℕ) (rest : List ℕ) : Type 0 where
+-- The text begins at this place of its file. Its first records are those of these writes, they end
+-- at the second place, and the rest follows.
+pub record AreFirst (text : List ℕ) (at : ℕ) (writes : List Write) (end : ℕ) (rest : List ℕ) : Type 0 where
   pub fit : AllByRecursion IsWritable writes
   pub whole : text ≡ records_of writes ++ rest
-  pub ends : end ≡ length (records_of writes)
+  pub ends : end ≡ at + length (records_of writes)

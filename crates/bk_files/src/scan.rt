@@ -1,14 +1,14 @@
-//! The scan of a data file: its records from the front, as far as they are whole.
-ghost use Rattle.std.specs.Prelude.{◌≡◌, ◌+◌, ◌<◌, ◌≤◌, ◌++◌, ◌∷◌, ℕ, List, [], false, length, take, drop, IsTrue, MatchOption, IfOk, OnOk, OnErr};
+//! The scan of a data file: its records in order from some place on, as far as they are whole.
+ghost use Rattle.std.specs.Prelude.{◌≡◌, ◌+◌, ◌-◌, ◌<◌, ◌≤◌, ◌++◌, ◌∷◌, ℕ, List, [], length, take, drop, IsTrue, IsNone, IfSome, MatchOption, IfOk, OnOk, OnErr};
 ghost use Rattle.bk_base.specs.declared.writes.Write.{Write as AnyWrite};
 ghost use Rattle.bk_laws.specs.Record.{AreRecords, NoRecord, RecordStands, size_of};
-ghost use Rattle.bk_record.specs.Stops.{IsDecoded};
-ghost use Rattle.bk_files.specs.Scan.{AreFirst, Finds, HasReadCause, IsHopeless, IsNeeded, IsSettled, IsTold, Placed, file_len, largest};
+ghost use Rattle.bk_record.specs.Stops.{IsDecoded, IsKeyDecoded};
+ghost use Rattle.bk_files.specs.Scan.{AreFirst, Finds, FindsKey, HasReadCause, IsHopeless, IsNeeded, IsSettled, IsTold, Placed, PlacedKey, file_len, largest};
 ghost use Rattle.bk_files.specs.declared.scan.ScanError.TheVariants.{Memory as no_memory};
 
-use bk_base::{FileId, Memory, Write};
+use bk_base::{FileId, Key, Memory, Version, Write};
 use bk_disk::{Failed, View};
-use bk_record::{Decoded, Header, Stop, decode};
+use bk_record::{Decoded, DecodedKey, Header, Stop, decode, decode_key};
 use std::alloc::{AllocError, Global};
 use std::marker::Model;
 
@@ -17,6 +17,9 @@ const HEADER: usize = 22;
 
 /// How many bytes a read asks for at most.
 const PIECE: u64 = 65_536;
+
+/// How much room a buffer keeps at most where a record doesn't need more.
+const KEPT_ROOM: usize = 131_072;
 
 /// A record that was found.
 #[derive(Debug, Drop)]
@@ -30,6 +33,13 @@ pub struct Found {
     pub crc: u32,
 }
 
+/// A record that was found, without its value.
+#[derive(Debug, Drop)]
+pub struct FoundKey {
+    pub key: Key,
+    pub version: Version,
+}
+
 /// Why a scan was cut off.
 #[derive(Clone, Copy, Debug, PartialEq, Eq)]
 pub enum ScanError {
@@ -39,9 +49,9 @@ pub enum ScanError {
     Memory,
 }
 
-/// The scan of a file from its front. It holds no more than one record that isn't whole yet and
-/// one piece behind it. Contracts see the bytes that were read and not given yet, where in the file
-/// they begin, and how many bytes of the file stand behind them.
+/// The scan of a file. It holds no more than one record that isn't whole yet and one piece behind
+/// it. Contracts see the bytes that were read and not given yet, where in the file they begin, and
+/// how many bytes of the file stand behind them.
 #[derive(Drop)]
 pub struct Scan {
     alloc: Global,
@@ -50,7 +60,7 @@ pub struct Scan {
     unread: u64,
     bytes: Vec<u8>,
     /// Where the bytes begin that were not given yet.
-    from: usize,
+    begin: usize,
 }
 
 impl Model for Scan {
@@ -60,28 +70,37 @@ impl Model for Scan {
     ghost Value = { Scanned };
 
     ghost view = { λ s. record {
-      held = drop s.from s.bytes.items;
+      held = drop s.begin s.bytes.items;
       place = s.place;
       unread = s.unread;
       file = s.file;
     } };
 
-    ghost invariant = { λ s. (s.from ≤ length s.bytes.items) × (length s.bytes.items ≤ most_held)
-        × (s.place + (length s.bytes.items - s.from) + s.unread < 2 ^ 64) };
+    ghost invariant = { λ s. (s.begin ≤ length s.bytes.items) × (length s.bytes.items ≤ most_held)
+        × (s.place + (length s.bytes.items - s.begin) + s.unread < 2 ^ 64) };
 }
 
 impl Scan {
-    /// The scan of this file, which has `len` bytes. It takes no memory.
+    /// The scan of this file from its front; the file has `len` bytes. It takes no memory.
     pub fn new(alloc: Global, file: FileId, len: u64) -> Scan
         ensures { result ≡ record { held = []; place = 0; unread = len; file = file } }
+    {
+        Scan::from(alloc, file, 0, len)
+    }
+
+    /// The scan of this file from the place `at` on, where a record begins or the records end: what
+    /// stands before it is known already, as by a hint. It takes no memory.
+    pub fn from(alloc: Global, file: FileId, at: u64, len: u64) -> Scan
+        requires { at ≤ len }
+        ensures { result ≡ record { held = []; place = at; unread = len - at; file = file } }
     {
         Scan {
             alloc,
             file,
-            place: 0,
-            unread: len,
+            place: at,
+            unread: len - at,
             bytes: Vec::new(alloc),
-            from: 0,
+            begin: 0,
         }
     }
 
@@ -100,8 +119,9 @@ impl Scan {
         self.file
     }
 
-    /// The next record of the file, read through a view of all of it; or `None` at the first place
-    /// where none stands. What stands behind that place isn't looked at.
+    /// The next record of the file, read through a view of what follows the place that the scan
+    /// began at; or `None` at the first place where none stands. What stands behind that place isn't
+    /// looked at.
     ///
     /// After an error the same record is still to be found.
     pub fn next<V: View>(&mut self, view: &mut V) -> Result<Option<Found>, ScanError>
@@ -125,6 +145,29 @@ impl Scan {
         Ok(self.give()?)
     }
 
+    /// The same without the value: the record is read and its checksum tested, but its value is
+    /// neither copied nor kept.
+    pub fn next_key<V: View>(&mut self, view: &mut V) -> Result<Option<FoundKey>, ScanError>
+        requires { V.rest view.old ≡ self.old.unread }
+        ensures found { IsTold V.tells (V.left view.old) (V.rest view.old)
+            → IfOk result (λ found. FindsKey found self.old (self.old.held ++ V.left view.old)
+            (self.new.held ++ V.left view.new)) }
+        ensures placed { IfOk result (λ found. PlacedKey found self.old self.new.place) }
+        ensures rest { V.rest view.new ≡ self.new.unread }
+        ensures told { IsTold V.tells (V.left view.old) (V.rest view.old)
+            → IsTold V.tells (V.left view.new) (V.rest view.new) }
+        ensures kept { OnErr result (self.new.place ≡ self.old.place) }
+        ensures kept_bytes { IsTrue V.tells → OnErr result
+            (self.new.held ++ V.left view.new ≡ self.old.held ++ V.left view.old) }
+        ensures file { self.new.file ≡ self.old.file }
+        ensures len { file_len self.new ≡ file_len self.old }
+        ensures cause { HasReadCause (V.faults view.old) (V.faults view.new) (V.fallible view.old)
+            (V.fallible view.new) result }
+    {
+        self.fetch(view)?;
+        Ok(self.give_key()?)
+    }
+
     // Reads until a record that stands at the front is held whole.
     fn fetch<V: View>(&mut self, view: &mut V) -> Result<(), ScanError>
         requires { V.rest view.old ≡ self.old.unread }
@@ -140,29 +183,32 @@ impl Scan {
         ensures cause { HasReadCause (V.faults view.old) (V.faults view.new) (V.fallible view.old)
             (V.fallible view.new) result }
     {
-        while self.wants() {
-            self.fill(view)?;
+        while let Some(size) = self.wants() {
+            self.fill(view, size)?;
         }
         Ok(())
     }
 
-    // Whether more of the file is needed to tell what stands at the front.
-    fn wants(&self) -> bool
-        ensures more { IsTrue result → (0 < self.now.unread) × (length self.now.held < largest) }
-        ensures settled { result ≡ false → IsSettled self.now.held self.now.unread }
+    // How many bytes a record at the front has at least, where the file has them and they aren't
+    // held yet.
+    fn wants(&self) -> Option<usize>
+        ensures more { IfSome result (λ size. (0 < self.now.unread) × (length self.now.held < size)
+            × (size ≤ largest)) }
+        ensures settled { IsNone result → IsSettled self.now.held self.now.unread }
     {
         let held = self.held();
         let len = held.len() as u64;
         match needed(held) {
-            Some(size) => len < size && size - len <= self.unread,
-            None => false,
+            Some(size) if len < size && size - len <= self.unread => Some(size as usize),
+            _ => None,
         }
     }
 
-    // Reads the next piece of the file.
-    fn fill<V: View>(&mut self, view: &mut V) -> Result<(), ScanError>
+    // Reads the next piece of the file, for a record of this size at least.
+    fn fill<V: View>(&mut self, view: &mut V, size: usize) -> Result<(), ScanError>
         requires some { 0 < self.old.unread }
-        requires room { length self.old.held < largest }
+        requires less { length self.old.held < size }
+        requires room { size ≤ largest }
         requires rest { V.rest view.old ≡ self.old.unread }
         ensures read { OnOk result (self.new.unread < self.old.unread) }
         ensures text { IsTrue V.tells →
@@ -176,8 +222,9 @@ impl Scan {
         ensures cause { HasReadCause (V.faults view.old) (V.faults view.new) (V.fallible view.old)
             (V.fallible view.new) result }
     {
-        drop_given(&mut self.bytes, self.from);
-        self.from = 0;
+        drop_given(&mut self.bytes, self.begin);
+        self.begin = 0;
+        make_room(&mut self.bytes, size)?;
         let count = read_piece(view, self.unread, &mut self.bytes)?;
         self.unread -= count;
         Ok(())
@@ -197,9 +244,7 @@ impl Scan {
         let Some(decoded) = first(self.alloc, self.held())? else {
             return Ok(None);
         };
-        let at = self.place;
-        self.from += decoded.size as usize;
-        self.place += u64::from(decoded.size);
+        let at = self.take_off(decoded.size);
         Ok(Some(Found {
             write: decoded.write,
             at,
@@ -208,11 +253,57 @@ impl Scan {
         }))
     }
 
+    // The record at the front without its value; it is taken off.
+    fn give_key(&mut self) -> Result<Option<FoundKey>, Memory>
+        requires { IsSettled self.old.held self.old.unread }
+        ensures found { IfOk result (λ found. (left : List ℕ) → length left ≡ self.old.unread →
+            FindsKey found self.old (self.old.held ++ left) (self.new.held ++ left)) }
+        ensures placed { IfOk result (λ found. PlacedKey found self.old self.new.place) }
+        ensures kept { OnErr result (self.new ≡ self.old) }
+        ensures unread { self.new.unread ≡ self.old.unread }
+        ensures file { self.new.file ≡ self.old.file }
+        ensures len { file_len self.new ≡ file_len self.old }
+    {
+        let Some(decoded) = first_key(self.alloc, self.held())? else {
+            return Ok(None);
+        };
+        let at = self.take_off(decoded.size);
+        let version = Version {
+            seq: decoded.seq,
+            at,
+            moment: decoded.moment,
+            file: self.file,
+            size: decoded.size,
+            crc: decoded.crc,
+            gone: decoded.gone,
+        };
+        Ok(Some(FoundKey {
+            key: decoded.key,
+            version,
+        }))
+    }
+
+    // Takes a record of this size off the front, and says where it begins.
+    fn take_off(&mut self, size: u32) -> u64
+        requires { size ≤ length self.old.held }
+        ensures at { result ≡ self.old.place }
+        ensures taken { self.new ≡ record self.old {
+          held = drop size self.old.held;
+          place = self.old.place + size;
+        } }
+        ensures len { file_len self.new ≡ file_len self.old }
+    {
+        let at = self.place;
+        self.begin += size as usize;
+        self.place += u64::from(size);
+        at
+    }
+
     // The bytes that were read and not given yet.
     fn held(&self) -> &[u8]
         ensures { result.now ≡ self.now.held }
     {
-        &self.bytes[self.from..]
+        &self.bytes[self.begin..]
     }
 }
 
@@ -222,10 +313,20 @@ fn first(alloc: Global, bytes: &[u8]) -> Result<Option<Decoded>, Memory>
 {
     match decode(alloc, bytes) {
         Ok(decoded) => Ok(Some(decoded)),
-        Err(stop) => match stop {
-            Stop::Memory => Err(Memory),
-            _ => Ok(None),
-        },
+        Err(Stop::Memory) => Err(Memory),
+        Err(_) => Ok(None),
+    }
+}
+
+// The same without the value.
+fn first_key(alloc: Global, bytes: &[u8]) -> Result<Option<DecodedKey>, Memory>
+    ensures { IfOk result (λ decoded. MatchOption decoded (NoRecord bytes.now)
+        (IsKeyDecoded bytes.now)) }
+{
+    match decode_key(alloc, bytes) {
+        Ok(decoded) => Ok(Some(decoded)),
+        Err(Stop::Memory) => Err(Memory),
+        Err(_) => Ok(None),
     }
 }
 
@@ -256,6 +357,22 @@ fn drop_given(bytes: &mut Vec<u8>, from: usize)
     let rest = bytes.len() - from;
     bytes.copy_within(from.., 0);
     bytes.truncate(rest);
+}
+
+// Makes room for a record of this size and a piece behind it, and gives back what a larger one took.
+// A large record so takes one block that fits it, and not one that was doubled.
+fn make_room(bytes: &mut Vec<u8>, size: usize) -> Result<(), AllocError>
+    requires less { length bytes.old.items < size }
+    requires bound { size ≤ largest }
+    ensures { bytes.new.items ≡ bytes.old.items }
+{
+    let len = bytes.len();
+    let wanted = size - 1 + PIECE as usize;
+    if wanted <= KEPT_ROOM {
+        // A smaller block that is refused leaves the larger one, which serves as well.
+        bytes.shrink_to(KEPT_ROOM);
+    }
+    bytes.reserve_exact(wanted - len)
 }
 
 // Reads the next piece behind the bytes, and says how many bytes it has. After an error they are
@@ -312,12 +429,17 @@ pub fn records_go_on()
     ensures none { (text : List ℕ) → NoRecord text → AreRecords text [] }
 {}
 
-/// The same for a loop: what it has found so far are the first records, and in the end all of them.
+/// The same for a loop that begins at some place: what it has found so far are the first records
+/// from there, and in the end all of them. What a loop finds from where other records end goes on
+/// with them.
 pub fn first_records()
-    ensures none_yet { (text : List ℕ) → AreFirst text [] 0 text }
-    ensures one_more { (text : List ℕ) (ws : List AnyWrite) (end : ℕ) (rest : List ℕ) (w : AnyWrite) →
-        (left : List ℕ) → AreFirst text ws end rest → RecordStands rest w left →
-        AreFirst text (ws ++ w ∷ []) (end + size_of w) left }
-    ensures all { (text : List ℕ) (ws : List AnyWrite) (end : ℕ) (rest : List ℕ) →
-        AreFirst text ws end rest → NoRecord rest → AreRecords text ws }
+    ensures none_yet { (text : List ℕ) (at : ℕ) → AreFirst text at [] at text }
+    ensures one_more { (text : List ℕ) (at : ℕ) (ws : List AnyWrite) (end : ℕ) (rest : List ℕ)
+        (w : AnyWrite) (left : List ℕ) → AreFirst text at ws end rest → RecordStands rest w left →
+        AreFirst text at (ws ++ w ∷ []) (end + size_of w) left }
+    ensures go_on { (text : List ℕ) (at : ℕ) (vs : List AnyWrite) (place : ℕ) (mid : List ℕ)
+        (ws : List AnyWrite) (end : ℕ) (rest : List ℕ) → AreFirst text at vs place mid →
+        AreFirst mid place ws end rest → AreFirst text at (vs ++ ws) end rest }
+    ensures all { (text : List ℕ) (at : ℕ) (ws : List AnyWrite) (end : ℕ) (rest : List ℕ) →
+        AreFirst text at ws end rest → NoRecord rest → AreRecords text ws }
 {}

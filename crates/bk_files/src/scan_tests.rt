@@ -1,5 +1,5 @@
 //! A scan over a disk in memory: what it finds of a file that is whole, changed or cut.
-ghost use Rattle.std.specs.Prelude.{◌≡◌, ◌≤◌, ◌++◌, length, IsTrue, IfOk};
+ghost use Rattle.std.specs.Prelude.{◌≡◌, ◌+◌, ◌≤◌, ◌++◌, length, IsTrue, IfOk};
 ghost use Rattle.bk_disk.specs.Told.{range_of};
 ghost use Rattle.bk_laws.specs.Record.{AreRecords, records_of};
 ghost use Rattle.bk_files.specs.Scan.{IsTold};
@@ -64,14 +64,35 @@ fn scans(rt: &impl Abort, alloc: Global, bytes: &[u8], count: usize, end: u64) -
     Ok(())
 }
 
-// All that a scan finds from the front of a file.
+// Scans the same from behind the first record on, without values.
+fn goes_on(rt: &impl Abort, alloc: Global, bytes: &[u8]) -> Result<(), Fail> {
+    let mut disk = MemDisk::new(alloc);
+    disk.place(FILE, bytes)?;
+    let len = bytes.len() as u64;
+    let at = len.min(24);
+    let mut view = disk.view(FILE, at, len - at)?;
+    let mut scan = Scan::from(alloc, FileId(1), at, len);
+    for (at, size, seq) in &RECORDS[1..] {
+        let found = scan.next_key(&mut view)?.ok_or("none found")?;
+        let version = found.version;
+        assert_eq!(rt;
+            (version.at, version.size, version.seq, version.file),
+            (*at, *size, Seq(*seq), FileId(1))
+        );
+        assert_eq!(rt; found.key.bytes(), b"a".as_slice());
+    }
+    assert!(rt; scan.next_key(&mut view)?.is_none());
+    assert_eq!(rt; scan.place(), len);
+    Ok(())
+}
+
+// All that a scan finds from where it begins.
 fn all_of<V: View>(scan: &mut Scan, alloc: Global, view: &mut V) -> Result<Vec<Write>, Fail>
-    requires rest { V.rest view.old ≡ scan.old.unread }
-    requires front { scan.old.place ≡ 0 }
+    requires { V.rest view.old ≡ scan.old.unread }
     ensures writes { IsTold V.tells (V.left view.old) (V.rest view.old) → IfOk result
         (λ writes. AreRecords (scan.old.held ++ V.left view.old) writes.items) }
     ensures end { IsTold V.tells (V.left view.old) (V.rest view.old) → IfOk result
-        (λ writes. scan.new.place ≡ length (records_of writes.items)) }
+        (λ writes. scan.new.place ≡ scan.old.place + length (records_of writes.items)) }
 {
     let mut writes = Vec::new(alloc);
     while let Some(found) = scan.next(view)? {
@@ -95,6 +116,7 @@ fn whole_records_are_found(rt: HostRuntime) -> Result<(), Fail> {
     let mut text = text(rt.alloc())?;
     assert!(rt; text.len() == 70_070);
     scans(&rt, rt.alloc(), &text, 3, 70_070)?;
+    goes_on(&rt, rt.alloc(), &text)?;
     text[60_000] = 8;
     scans(&rt, rt.alloc(), &text, 1, 24)?;
     text[60_000] = 7;

@@ -8,7 +8,7 @@ use Rattle.bk_laws.specs.Hint.{FitsRow, Hinted, IsHint, head_text, mark_text, ro
 use Rattle.bk_hint.specs.declared.headers.Header.{Header}
 use Rattle.bk_hint.specs.Headers.{IsMark, NoRow, header_of, text_of}
 use Rattle.bk_hint.specs.Verdicts.{AreRows, IsWalked, IsWhole}
-use Rattle.bk_hint.proofs.Bytes.{AreBytes-drop}
+use Rattle.bk_base.proofs.Bytes.{AreBytes-drop}
 use Rattle.bk_hint.proofs.Heads.{head_read, head_says, header_fits, length-head_text}
 use Rattle.bk_hint.proofs.RowTexts.{no_row-mark, no_row-short, same_rows}
 

@@ -1,4 +1,3 @@
-pub mod Bytes
 pub mod Heads
 pub mod RowTexts
 pub mod HintTexts
@@ -6,5 +5,4 @@ pub mod Walks
 pub mod Answering
 pub mod RowsLeftBehind
 pub mod Adding
-pub mod RecordBytes
 pub mod RoundTrips

@@ -5,21 +5,24 @@ use Rattle.std.specs.List.{AllByRecursion}
 use Rattle.std.proofs.lemmas.Bool.Decides.{nat_tests}
 use Rattle.std.proofs.lemmas.List.{length-append}
 use Rattle.bk_base.specs.Bounds.{AreBytes}
+use Rattle.bk_base.specs.declared.limits.TheConstants.{LONGEST_VALUE, RECORD_HEADER, TOMBSTONE}
+use Rattle.bk_base.specs.declared.numbers.FileId.{FileId}
 use Rattle.bk_base.specs.declared.writes.Version.{Version}
 use Rattle.bk_base.specs.declared.writes.Write.{Write}
 use Rattle.bk_crc.specs.Crc.{crc_of}
 use Rattle.bk_crc.proofs.Bounds.{crc_of-lt}
 use Rattle.bk_laws.specs.Hint.{FitsRow, Hinted, IsGood, IsHint, IsSoundRow, RowsLeft, head_text, hint_text}
 use Rattle.bk_laws.specs.Hint.{row_from, row_text, rows_from, rows_text, text_with, told_by, version_in}
-use Rattle.bk_laws.specs.Places.{is_tombstone_field, placed_from, value_length, version_at}
+use Rattle.bk_laws.specs.Version.{placed_from, version_at}
+use Rattle.bk_laws.specs.Record.{is_tombstone_field, value_length}
 use Rattle.bk_laws.specs.Record.{IsSeq, IsWritable, record_of, records_of, size_of}
 use Rattle.bk_hint.specs.declared.rows.HintRow.{HintRow}
 use Rattle.bk_hint.specs.Headers.{head_of, text_of}
 use Rattle.bk_hint.specs.Passing.{HasSize, row_of}
-use Rattle.bk_hint.proofs.Bytes.{AreBytes-append, each_byte}
+use Rattle.bk_base.proofs.Bytes.{AreBytes-append, All-from_AreBytes}
 use Rattle.bk_hint.proofs.Heads.{AreBytes-head_text}
 use Rattle.bk_hint.proofs.HintTexts.{one_hint}
-use Rattle.bk_hint.proofs.RecordBytes.{checksum_of-lt, field_fits, length-record_of, length_said, tombstone_said, value_bound}
+use Rattle.bk_laws.proofs.RecordBytes.{checksum_of-lt, field_fits, length-record_of, length_bound, length_said, tombstone_said}
 
 -- ---- rows
 
@@ -41,7 +44,7 @@ rows_are_good covered len rows fit sound few within small = record {
     fit = fit;
     covered_fits = small;
     count_fits = few;
-    crc_fits = crc_of-lt (rows_text rows) (each_byte (rows_text rows) (AreBytes-rows_text rows fit));
+    crc_fits = crc_of-lt (rows_text rows) (All-from_AreBytes (rows_text rows) (AreBytes-rows_text rows fit));
     whole = refl;
   };
   within = within;
@@ -68,12 +71,11 @@ good_rows bytes len covered rows good = record {
 
 row_fits : (at : ℕ) (w : Write) → IsWritable w → at < 2 ^ 64 → FitsRow (row_from at w)
 row_fits at w fits small =
-    let seq : w.seq.0 < 2 ^ 63 = fits.seq.1 in
     record {
       moment = fits.moment;
       vsz = field_fits w.body fits.body;
       at = small;
-      seq = omega arith;
+      seq = omega (arith, fits.seq.1);
       crc = checksum_of-lt w fits;
       key = fits.key;
     }
@@ -83,7 +85,7 @@ row_sound at covered w fits within =
     let said = length_said w.body fits.body in
     record {
       seq = fits.seq;
-      value = omega (arith, said, value_bound w.body fits.body);
+      value = omega (arith, said, length_bound w.body fits.body);
       within = omega (arith, said);
     }
 
@@ -119,14 +121,14 @@ written_is_good writes len fit within small =
     rows_are_good covered len (rows_from 0 writes) (rows_fit 0 writes fit (omega arith))
     (rows_sound 0 covered writes fit (omega arith)) (omega (arith, rows_few 0 writes)) within (omega arith)
 
-told_record : (file at : ℕ) (w : Write) → IsWritable w → version_in file (row_from at w) ≡ version_at file at w
+told_record : (file : FileId) (at : ℕ) (w : Write) → IsWritable w → version_in file (row_from at w) ≡ version_at file at w
 told_record file at w fits =
-    let size : 22 + length w.key + value_length (row_from at w).vsz ≡ size_of w =
+    let size : RECORD_HEADER + length w.key + value_length (row_from at w).vsz ≡ size_of w =
     omega (arith, length_said w.body fits.body) in
     let gone = tombstone_said w.body fits.body in
     λ i. record (version_at file at w) { size = size i; gone = gone i }
 
-pub told_records : (file at : ℕ) (writes : List Write) → AllByRecursion IsWritable writes
+pub told_records : (file : FileId) (at : ℕ) (writes : List Write) → AllByRecursion IsWritable writes
     → told_by file (rows_from at writes) ≡ placed_from file at writes
 told_records file at [] fit = refl
 told_records file at (w ∷ ws) fit =
@@ -138,11 +140,11 @@ told_records file at (w ∷ ws) fit =
 
 -- the field of the value's length, and what it says
 record Says (gone : Bool) (size least : ℕ) : Type 0 where
-  pub length_is : value_length (cond gone 4294967295 (size - least)) + least ≡ size
-  pub gone_is : is_tombstone_field (cond gone 4294967295 (size - least)) ≡ gone
-  pub bound : value_length (cond gone 4294967295 (size - least)) ≤ 16777216
+  pub length_is : value_length (cond gone TOMBSTONE (size - least)) + least ≡ size
+  pub gone_is : is_tombstone_field (cond gone TOMBSTONE (size - least)) ≡ gone
+  pub bound : value_length (cond gone TOMBSTONE (size - least)) ≤ LONGEST_VALUE
 
-says : (gone : Bool) (size least : ℕ) → least ≤ size → size ≤ least + 16777216
+says : (gone : Bool) (size least : ℕ) → least ≤ size → size ≤ least + LONGEST_VALUE
     → (gone ≡ true → size ≡ least) → Says gone size least
 says true size least low high none = record {
   length_is = omega (arith, none refl);
@@ -150,20 +152,20 @@ says true size least low high none = record {
   bound = omega arith;
 }
 says false size least low high none =
-    let no : eqb (size - least) 4294967295 ≡ false = grind (arith, nat_tests) in
+    let no : eqb (size - least) TOMBSTONE ≡ false = grind (arith, nat_tests) in
     record { length_is = rw no (omega arith); gone_is = no; bound = rw no (omega arith) }
 
 pub added_is_sound : (row : HintRow) (covered : ℕ) → IsSeq row.version.seq.0 → HasSize row.version row.key
     → row.version.at + row.version.size ≤ covered → IsSoundRow covered (row_of row)
 added_is_sound row covered seq has within =
     let v = row.version in
-    let s = says v.gone v.size (22 + length row.key) has.least has.most has.none in
+    let s = says v.gone v.size (RECORD_HEADER + length row.key) has.least has.most has.none in
     record { seq = seq; value = s.bound; within = omega (arith, s.length_is) }
 
 pub told_again : (row : HintRow) → HasSize row.version row.key
-    → version_in row.version.file.0 (row_of row) ≡ row.version
+    → version_in row.version.file (row_of row) ≡ row.version
 told_again row has =
     let v = row.version in
-    let s = says v.gone v.size (22 + length row.key) has.least has.most has.none in
-    let size : 22 + length row.key + value_length (row_of row).vsz ≡ v.size = omega (arith, s.length_is) in
+    let s = says v.gone v.size (RECORD_HEADER + length row.key) has.least has.most has.none in
+    let size : RECORD_HEADER + length row.key + value_length (row_of row).vsz ≡ v.size = omega (arith, s.length_is) in
     λ i. record v { size = size i; gone = s.gone_is i }

@@ -8,7 +8,7 @@ use Rattle.bk_base.specs.Bounds.{AreBytes, IsKey}
 use Rattle.bk_laws.specs.Hint.{FitsRow, Hinted, head_text, mark_text, row_text, rows_text}
 use Rattle.bk_hint.specs.declared.headers.Header.{Header}
 use Rattle.bk_hint.specs.Headers.{IsFirstRow, NoRow, RowStands, head_of, header_of, row_in, text_of}
-use Rattle.bk_hint.proofs.Bytes.{AreBytes-drop, AreBytes-take}
+use Rattle.bk_base.proofs.Bytes.{AreBytes-drop, AreBytes-take}
 use Rattle.bk_hint.proofs.Heads.{FitsHead, header_fits, head_read, head_says, length-head_text}
 
 pub row_text-parts : (r : Hinted) → row_text r ≡ text_of (head_of r) ++ r.key

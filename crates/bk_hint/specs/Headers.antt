@@ -1,9 +1,9 @@
 -- What the header of a row says.
 use Rattle.std.specs.Prelude.{◌≡◌, ℕ, ◌+◌, ◌≤◌, List, ◌++◌, length, drop}
 use Rattle.std.specs.Int.{w16, w32, w64, from_be_bytes}
-use Rattle.bk_laws.specs.Record.{IsSeq}
+use Rattle.bk_base.specs.declared.limits.TheConstants.{LONGEST_VALUE, RECORD_HEADER}
+use Rattle.bk_laws.specs.Record.{IsSeq, value_length}
 use Rattle.bk_laws.specs.Hint.{FitsRow, Hinted, head_text, row_text}
-use Rattle.bk_laws.specs.Places.{value_length}
 use Rattle.bk_hint.specs.declared.headers.Header.{Header}
 
 -- the numbers of the first 30 bytes, each from where its field begins
@@ -30,12 +30,12 @@ pub record IsMark (rows : ℕ) (h : Header) : Type 0 where
 
 -- how many bytes the record has by its row
 abbrev pub record_size : Header → ℕ
-record_size h = 22 + h.ksz + value_length h.vsz
+record_size h = RECORD_HEADER + h.ksz + value_length h.vsz
 
 -- the row tells of a record that may stand within the covered length
 pub record IsSoundHeader (covered : ℕ) (h : Header) : Type 0 where
   pub seq : IsSeq h.seq
-  pub value : value_length h.vsz ≤ 16777216
+  pub value : value_length h.vsz ≤ LONGEST_VALUE
   pub within : h.at + record_size h ≤ covered
 
 -- the row by its header and its key

@@ -1,22 +1,10 @@
 //! The header of a row, and the end mark: numbers of fixed widths, big-endian.
 ghost use Rattle.std.specs.Prelude.{◌≡◌, ◌↔◌, IsTrue};
 ghost use Rattle.bk_hint.specs.Headers.{IsMark, IsSoundHeader, header_of, record_size, text_of};
-ghost use Rattle.bk_laws.specs.Places.{is_tombstone_field, value_length};
+ghost use Rattle.bk_laws.specs.Record.{is_tombstone_field, value_length};
 
 use bk_base::Moment;
-
-/// The header's length in bytes; the end mark has as many.
-pub(crate) const HEADER: usize = 30;
-
-/// What stands in the place of the value's length where the record is a tombstone.
-pub(crate) const TOMBSTONE: u32 = 0xffff_ffff;
-
-/// How many bytes of a record stand before its key.
-pub(crate) const RECORD_HEADER: u64 = 22;
-
-const LONGEST_VALUE: u64 = 16_777_216;
-
-const LAST_SEQ: u64 = 0x7fff_ffff_ffff_ffff;
+use bk_base::limits::{HINT_HEADER, LAST_SEQ, LONGEST_VALUE, RECORD_HEADER, TOMBSTONE};
 
 /// The numbers in the header of a row, or in the end mark, whatever they are.
 #[derive(Clone, Copy, Debug, PartialEq, Eq)]
@@ -36,7 +24,7 @@ pub struct Header {
 
 impl Header {
     /// The header in these bytes.
-    pub fn read(bytes: &[u8; HEADER]) -> Header
+    pub fn read(bytes: &[u8; HINT_HEADER]) -> Header
         ensures { result ≡ header_of bytes.now }
     {
         Header {
@@ -56,7 +44,7 @@ impl Header {
     }
 
     /// The bytes of the header.
-    pub fn text(&self) -> [u8; HEADER]
+    pub fn text(&self) -> [u8; HINT_HEADER]
         ensures { result ≡ text_of self.now }
     {
         let [m0, m1, m2, m3] = self.moment.0.to_be_bytes();
@@ -85,14 +73,17 @@ impl Header {
     {
         let is_seq = self.seq != 0 && self.seq <= LAST_SEQ;
         let size = self.record_size();
-        is_seq && self.value_size() <= LONGEST_VALUE && size <= covered && self.at <= covered - size
+        is_seq
+            && self.value_size() <= u64::from(LONGEST_VALUE)
+            && size <= covered
+            && self.at <= covered - size
     }
 
     /// How many bytes the record has.
     pub fn record_size(&self) -> u64
         ensures { result ≡ record_size self.now }
     {
-        RECORD_HEADER + u64::from(self.ksz) + self.value_size()
+        RECORD_HEADER as u64 + u64::from(self.ksz) + self.value_size()
     }
 
     /// Whether the record is a tombstone.

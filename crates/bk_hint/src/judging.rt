@@ -3,8 +3,9 @@ ghost use Rattle.std.specs.Prelude.{◌≡◌, ℕ, List, MatchOption};
 ghost use Rattle.bk_laws.specs.Hint.{Hinted, IsHint};
 ghost use Rattle.bk_hint.specs.Verdicts.{AreRows, IsVerdict, IsWalked, IsWhole, first_by};
 
-use crate::headers::{HEADER, Header};
+use crate::headers::Header;
 use crate::rows::next_row;
+use bk_base::limits::HINT_HEADER;
 use bk_crc::crc32;
 
 /// What a hint's bytes are. The causes are tested in this order.
@@ -66,7 +67,7 @@ fn whole(bytes: &[u8]) -> Option<(&[u8], Header, Walk)>
         ((covered : ℕ) (rows : List Hinted) (crc : ℕ) → IsHint bytes.now covered rows crc → ⊥)
         (λ x. IsWhole bytes.now x.0.now x.1.at x.1.crc x.2.rows x.2.first_bad) }
 {
-    let (front, mark) = bytes.split_last_chunk::<HEADER>()?;
+    let (front, mark) = bytes.split_last_chunk::<HINT_HEADER>()?;
     let mark = Header::read(mark);
     let walk = walk_over(front, mark.at)?;
     if !mark.is_mark(walk.rows) {

@@ -1,10 +1,11 @@
 //! Laws of hints, for their callers.
 ghost use Rattle.std.specs.Prelude.{◌≡◌, ℕ, ◌+◌, ◌^◌, ◌<◌, ◌≤◌, List, length};
 ghost use Rattle.std.specs.List.{AllByRecursion};
+ghost use Rattle.bk_base.specs.declared.numbers.FileId.{FileId};
 ghost use Rattle.bk_base.specs.declared.writes.Write.{Write};
 ghost use Rattle.bk_laws.specs.Hint.{FitsRow, Hinted, IsGood, IsSoundRow, RowsLeft};
 ghost use Rattle.bk_laws.specs.Hint.{hint_text, rows_from, text_with, told_by, version_in};
-ghost use Rattle.bk_laws.specs.Places.{placed_from};
+ghost use Rattle.bk_laws.specs.Version.{placed_from};
 ghost use Rattle.bk_laws.specs.Record.{IsSeq, IsWritable, records_of};
 ghost use Rattle.bk_hint.specs.declared.judging.Verdict.{Verdict};
 ghost use Rattle.bk_hint.specs.declared.rows.HintRow.{HintRow};
@@ -52,12 +53,12 @@ pub fn good_rows()
 
 /// The rows of a file's records tell what the records themselves say.
 pub fn told_records()
-    ensures { (file at : ℕ) (writes : List Write) → AllByRecursion IsWritable writes →
+    ensures { (file : FileId) (at : ℕ) (writes : List Write) → AllByRecursion IsWritable writes →
         told_by file (rows_from at writes) ≡ placed_from file at writes }
 {}
 
 /// What was added tells the version that it was added for.
 pub fn told_again()
     ensures { (row : HintRow) → HasSize row.version row.key →
-        version_in row.version.file.0 (row_of row) ≡ row.version }
+        version_in row.version.file (row_of row) ≡ row.version }
 {}

@@ -5,8 +5,8 @@ ghost use Rattle.bk_base.specs.Bounds.{IsKey};
 ghost use Rattle.bk_laws.specs.Hint.{Hinted, RowsLeft};
 ghost use Rattle.bk_hint.specs.Passing.{Gives};
 
-use crate::headers::HEADER;
 use crate::rows::{HintRow, next_row};
+use bk_base::limits::HINT_HEADER;
 use bk_base::{FileId, Key, Memory, Seq, Version};
 use std::alloc::Global;
 use std::marker::Model;
@@ -71,7 +71,7 @@ impl HintIn {
             crc: header.crc,
             gone: header.is_tombstone(),
         };
-        self.at += HEADER + key.len();
+        self.at += HINT_HEADER + key.len();
         Some((version, key))
     }
 }

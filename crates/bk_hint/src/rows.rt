@@ -4,7 +4,8 @@ ghost use Rattle.bk_hint.specs.Headers.{IsFirstRow, NoRow, head_of};
 ghost use Rattle.bk_hint.specs.Passing.{HasSize, row_of};
 ghost use Rattle.bk_laws.specs.Hint.{FitsRow};
 
-use crate::headers::{HEADER, Header, RECORD_HEADER, TOMBSTONE};
+use crate::headers::Header;
+use bk_base::limits::{HINT_HEADER, RECORD_HEADER, TOMBSTONE};
 use bk_base::{Key, Moment, Version};
 
 /// A key, and the version of it that a record of the data file holds.
@@ -42,7 +43,7 @@ pub(crate) fn next_row(bytes: &[u8]) -> Option<(Header, &[u8], &[u8])>
     ensures { MatchOption result (NoRow bytes.now)
         (λ x. IsFirstRow bytes.now x.0 x.1.now x.2.now) }
 {
-    let (front, behind) = bytes.split_first_chunk::<HEADER>()?;
+    let (front, behind) = bytes.split_first_chunk::<HINT_HEADER>()?;
     let header = Header::read(front);
     let len = usize::from(header.ksz);
     if len == 0 || behind.len() < len {

@@ -5,8 +5,9 @@ ghost use Rattle.bk_laws.specs.Hint.{FitsRow, Hinted, mark_text, row_text, rows_
 ghost use Rattle.bk_laws.specs.Record.{IsSeq};
 ghost use Rattle.bk_hint.specs.Passing.{HasSize, HasWritten, row_of};
 
-use crate::headers::{HEADER, Header};
+use crate::headers::Header;
 use crate::rows::{HintRow, header};
+use bk_base::limits::HINT_HEADER;
 use bk_base::{Memory, Moment};
 use bk_crc::Running;
 use std::marker::Model;
@@ -53,7 +54,7 @@ impl HintOut {
     {
         let text = header(row).text();
         let key = row.key.bytes();
-        out.reserve(HEADER + key.len())?;
+        out.reserve(HINT_HEADER + key.len())?;
         out.extend_from_slice(&text)?;
         out.extend_from_slice(key)?;
         self.check.add(&text);

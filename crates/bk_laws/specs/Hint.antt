@@ -15,11 +15,12 @@
 use Rattle.std.specs.Prelude.{◌≡◌, ℕ, ◌+◌, ◌^◌, ◌<◌, ◌≤◌, List, [], ◌∷◌, ◌++◌, length, map, drop}
 use Rattle.std.specs.Int.{w16, w32, w64, to_be_bytes}
 use Rattle.std.specs.List.{AllByRecursion, flat_map}
+use Rattle.bk_base.specs.declared.limits.TheConstants.{LONGEST_VALUE, RECORD_HEADER}
+use Rattle.bk_base.specs.declared.numbers.FileId.{FileId}
 use Rattle.bk_base.specs.declared.writes.Version.{Version}
 use Rattle.bk_base.specs.declared.writes.Write.{Write}
 use Rattle.bk_crc.specs.Crc.{crc_of}
-use Rattle.bk_laws.specs.Record.{IsSeq, checksum_of, records_of, size_of, value_field}
-use Rattle.bk_laws.specs.Places.{is_tombstone_field, value_length}
+use Rattle.bk_laws.specs.Record.{IsSeq, checksum_of, is_tombstone_field, records_of, size_of, value_field, value_length}
 use Rattle.bk_laws.specs.Wire.{FitsKey}
 
 -- what a row says of one record
@@ -92,12 +93,12 @@ pub record IsHint (bytes : List ℕ) (covered : ℕ) (rows : List Hinted) (crc :
 
 -- where the row's record ends
 abbrev pub row_end : Hinted → ℕ
-row_end r = r.at + (22 + length r.key + value_length r.vsz)
+row_end r = r.at + (RECORD_HEADER + length r.key + value_length r.vsz)
 
 -- the row tells of a record that may stand within the covered length
 pub record IsSoundRow (covered : ℕ) (r : Hinted) : Type 0 where
   pub seq : IsSeq r.seq
-  pub value : value_length r.vsz ≤ 16777216
+  pub value : value_length r.vsz ≤ LONGEST_VALUE
   pub within : row_end r ≤ covered
 
 -- The hint is good for a data file of this length: it is whole, its checksum is right, it covers no
@@ -117,17 +118,17 @@ pub record RowsLeft (bytes : List ℕ) (at covered : ℕ) (rows : List Hinted) :
   pub left : drop at bytes ≡ rows_text rows ++ mark_text covered count crc
 
 -- the version that a row tells of
-abbrev pub version_in : ℕ → Hinted → Version
+abbrev pub version_in : FileId → Hinted → Version
 version_in file r = record {
   seq = record { 0 = r.seq };
   at = r.at;
   moment = record { 0 = r.moment };
-  file = record { 0 = file };
-  size = 22 + length r.key + value_length r.vsz;
+  file = file;
+  size = RECORD_HEADER + length r.key + value_length r.vsz;
   crc = r.crc;
   gone = is_tombstone_field r.vsz;
 }
 
 -- what rows tell of the keys of a file
-abbrev pub told_by : ℕ → List Hinted → List (List ℕ × Version)
+abbrev pub told_by : FileId → List Hinted → List (List ℕ × Version)
 told_by file rows = map (λ (r : Hinted). (r.key, version_in file r)) rows

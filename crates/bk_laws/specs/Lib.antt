@@ -3,5 +3,5 @@ pub mod History
 pub mod Wire
 pub mod Session
 pub mod Record
-pub mod Places
+pub mod Version
 pub mod Hint

@@ -6,9 +6,10 @@
 --   bytes 10 to 13  the length of the value, or 4,294,967,295 for a tombstone
 --   bytes 14 to 21  the seq
 --   from 22 on      the key, and then the value
-use Rattle.std.specs.Prelude.{◌≡◌, ℕ, ◌+◌, ◌^◌, ◌<◌, ◌≤◌, List, ◌++◌, [], length, drop}
+use Rattle.std.specs.Prelude.{◌≡◌, ℕ, ◌+◌, ◌^◌, ◌<◌, ◌≤◌, ◌==◌, if◌then◌else◌, Bool, List, ◌++◌, [], length, drop}
 use Rattle.std.specs.Int.{w16, w32, w64, to_be_bytes}
 use Rattle.std.specs.List.{AllByRecursion, flat_map}
+use Rattle.bk_base.specs.declared.limits.TheConstants.{LAST_SEQ, RECORD_HEADER, TOMBSTONE}
 use Rattle.bk_base.specs.declared.writes.Write.{Write}
 use Rattle.bk_base.specs.declared.writes.Body.{Body}
 use Rattle.bk_base.specs.declared.writes.Body.TheVariants.{Put, Gone}
@@ -23,7 +24,14 @@ value_of Gone = []
 -- what the length field of the value holds
 abbrev pub value_field : Body → ℕ
 value_field (Put value) = length value
-value_field Gone = 4294967295
+value_field Gone = TOMBSTONE
+
+-- what that field says: whether the write is a tombstone, and how many bytes the value has
+abbrev pub is_tombstone_field : ℕ → Bool
+is_tombstone_field vsz = vsz == TOMBSTONE
+
+abbrev pub value_length : ℕ → ℕ
+value_length vsz = if vsz == TOMBSTONE then 0 else vsz
 
 -- the header behind the checksum
 unfoldable pub fields_of : Write → List ℕ
@@ -43,11 +51,11 @@ record_of w = to_be_bytes w32 (checksum_of w) ++ covered_of w
 
 -- its length in bytes
 abbrev pub size_of : Write → ℕ
-size_of w = 22 + length w.key + length (value_of w.body)
+size_of w = RECORD_HEADER + length w.key + length (value_of w.body)
 
 -- a seq that a write may have
 abbrev pub IsSeq : ℕ → Type 0
-IsSeq seq = (1 ≤ seq) × (seq < 2 ^ 63)
+IsSeq seq = (1 ≤ seq) × (seq ≤ LAST_SEQ)
 
 abbrev pub FitsBody : Body → Type 0
 FitsBody (Put value) = FitsValue value

@@ -1,17 +1,20 @@
 -- The refusals of `decode` exclude one another, and what it finds on its way.
-use Rattle.std.proofs.Common.{◌≡◌, ◌≢◌, ℕ, true, false, ◌<◌, ◌≤◌, List, length, drop, ltb, refl, sym, ap, subst, ◌∙◌, arith, inl, inr}
+use Rattle.std.proofs.Common.{◌≡◌, ℕ, Bool, true, false, cond, ◌==◌, take, ◌<◌, ◌≤◌, List, length, drop, ltb, refl, sym, ap, subst, ◌∙◌, arith, inl, inr}
 use Rattle.std.proofs.lemmas.Bool.{cases_lt, le-ltb}
 use Rattle.std.proofs.lemmas.Bool.Decides.{nat_tests}
 use Rattle.std.proofs.lemmas.List.{length-take}
 use Rattle.bk_base.specs.Bounds.{AreBytes}
 use Rattle.bk_base.specs.declared.writes.Write.{Write}
 use Rattle.bk_crc.specs.Crc.{crc_of}
-use Rattle.bk_laws.specs.Record.{RecordStands}
+use Rattle.bk_laws.specs.Record.{RecordStands, checksum_of}
 use Rattle.bk_record.specs.declared.decoding.Stop.{Stop}
 use Rattle.bk_record.specs.declared.decoding.Stop.TheVariants.{End, Short, BadCheck, BadField, Memory}
+use Rattle.bk_base.specs.declared.writes.Body.TheVariants.{Put, Gone}
+use Rattle.bk_laws.specs.Version.{is_tombstone}
+use Rattle.bk_record.specs.declared.decoding.DecodedKey.{DecodedKey}
 use Rattle.bk_record.specs.declared.header.Header.{Header}
 use Rattle.bk_record.specs.Header.{IsSound, header_of, said_size, write_in}
-use Rattle.bk_record.specs.Stops.{IsDecoded, IsStop, IsWhole, computed_of, needed}
+use Rattle.bk_record.specs.Stops.{IsChecked, IsDecoded, IsKeyDecoded, IsStop, IsWhole, computed_of, needed, without_value}
 use Rattle.bk_record.proofs.Codec.{IsRead, is_read, read_write, reads}
 
 pub needed_is : (bytes : List ℕ) → 22 ≤ length bytes → needed bytes ≡ said_size (header_of bytes)
@@ -78,34 +81,61 @@ one_stop bytes s t p q =
 
 -- ---- what `decode` has found
 
-module _ (bytes : List ℕ) (h : Header) (text : List ℕ) (fits : AreBytes bytes) (found : IsWhole bytes h text) where
-  pub bad_check : (computed : ℕ) → computed ≡ crc_of (drop 4 text) → h.crc ≢ computed → IsStop bytes (BadCheck h.crc computed)
-  bad_check computed is differs =
-      (omega (arith, needed_is bytes found.long, found.sizes), ap (λ (x : Header). x.crc) found.header, is ∙ ap (λ (x : List ℕ). crc_of (drop 4 x)) found.is_text, differs)
+-- what is read of a record without its value, by its header, its key and its size
+abbrev pub read_of : Header → List ℕ → ℕ → DecodedKey
+read_of h key size = record { key = key; seq = record { 0 = h.seq }; moment = h.moment; size = size; crc = h.crc; gone = h.vsz == 4294967295 }
 
-  same_check : (computed : ℕ) → computed ≡ crc_of (drop 4 text) → h.crc ≡ computed → (header_of bytes).crc ≡ computed_of bytes
-  same_check computed is same = sym (ap (λ (x : Header). x.crc) found.header) ∙ same ∙ is ∙ ap (λ (x : List ℕ). crc_of (drop 4 x)) found.is_text
+same_check : {bytes : List ℕ} {h : Header} {text : List ℕ} (found : IsWhole bytes h text) (computed : ℕ) → computed ≡ crc_of (drop 4 text) → h.crc ≡ computed
+    → (header_of bytes).crc ≡ computed_of bytes
+same_check found computed is same = sym (ap (λ (x : Header). x.crc) found.header) ∙ same ∙ is ∙ ap (λ (x : List ℕ). crc_of (drop 4 x)) found.is_text
 
-  pub bad_field : (computed : ℕ) → computed ≡ crc_of (drop 4 text) → h.crc ≡ computed → (IsSound h → ⊥) → IsStop bytes BadField
-  bad_field computed is same not_sound =
-      (omega (arith, needed_is bytes found.long, found.sizes), same_check computed is same, λ sound. not_sound (subst IsSound (sym found.header) sound))
+module _ (bytes : List ℕ) (h : Header) (text : List ℕ) (fits : AreBytes bytes) (checked : IsChecked bytes h text) where
+  read_is : IsRead bytes
+  read_is =
+      let found = checked.whole in
+      is_read bytes fits found.long found.sizes (same_check found h.crc checked.check refl) (subst IsSound found.header checked.sound)
 
-  read_is : (computed : ℕ) → computed ≡ crc_of (drop 4 text) → h.crc ≡ computed → IsSound h → IsRead bytes
-  read_is computed is same sound = is_read bytes fits found.long found.sizes (same_check computed is same) (subst IsSound found.header sound)
+  pub stands : IsStop bytes Memory
+  stands = (_, _, read_is.stands)
 
-  pub stands : (computed : ℕ) → computed ≡ crc_of (drop 4 text) → h.crc ≡ computed → IsSound h → IsStop bytes Memory
-  stands computed is same sound = (_, _, (read_is computed is same sound).stands)
+  size_is : length text ≡ said_size (header_of bytes)
+  size_is = rw checked.whole.is_text (omega (arith, length-take (said_size (header_of bytes)) bytes, checked.whole.sizes))
 
   written : (w : Write) → w ≡ write_in h (drop 22 text) → w ≡ read_write bytes
-  written w e = e ∙ (λ i. write_in (found.header i) (drop 22 (found.is_text i)))
+  written w e = e ∙ (λ i. write_in (checked.whole.header i) (drop 22 (checked.whole.is_text i)))
 
-  pub decoded : (computed : ℕ) (w : Write) → computed ≡ crc_of (drop 4 text) → h.crc ≡ computed → IsSound h → w ≡ write_in h (drop 22 text) → IsDecoded bytes (record { write = w; size = length text; crc = computed })
-  decoded computed w is same sound e =
-      let r = read_is computed is same sound in
-      let size : length text ≡ said_size (header_of bytes) = rw found.is_text (omega (arith, length-take (said_size (header_of bytes)) bytes, found.sizes)) in
-      let crc : computed ≡ (header_of bytes).crc = sym same ∙ ap (λ (x : Header). x.crc) found.header in
-      subst (λ (v : Write). IsDecoded bytes (record { write = v; size = length text; crc = computed })) (sym (written w e))
-      (record { stands = rw size r.stands; size = size ∙ r.size; crc = crc ∙ r.crc })
+  crc_is : h.crc ≡ checksum_of (read_write bytes)
+  crc_is = ap (λ (x : Header). x.crc) checked.whole.header ∙ read_is.crc
+
+  pub decoded : (w : Write) → w ≡ write_in h (drop 22 text) → IsDecoded bytes (record { write = w; size = length text; crc = h.crc })
+  decoded w e =
+      subst (λ (v : Write). IsDecoded bytes (record { write = v; size = length text; crc = h.crc })) (sym (written w e))
+      (record { stands = rw size_is read_is.stands; size = size_is ∙ read_is.size; crc = crc_is })
 
   pub again : (w v : Write) (rest : List ℕ) → w ≡ write_in h (drop 22 text) → RecordStands bytes v rest → w ≡ v
   again w v rest e there = written w e ∙ (reads bytes v rest there).write
+
+  -- the same without the value
+  gone_by : (b : Bool) (value : List ℕ) → is_tombstone (cond b Gone (Put value)) ≡ b
+  gone_by true value = refl
+  gone_by false value = refl
+
+  says : (key : List ℕ) → key ≡ take h.ksz (drop 22 text) → read_of h key (length text) ≡ without_value (read_write bytes)
+  says key e =
+      let w = written (write_in h (drop 22 text)) refl in
+      let gone = gone_by (h.vsz == 4294967295) (drop h.ksz (drop 22 text)) in
+      λ i. record {
+        key = (e ∙ ap (λ (v : Write). v.key) w) i;
+        seq = (w i).seq;
+        moment = (w i).moment;
+        size = (size_is ∙ read_is.size) i;
+        crc = crc_is i;
+        gone = (sym gone ∙ ap (λ (v : Write). is_tombstone v.body) w) i;
+      }
+
+  pub key_decoded : (key : List ℕ) → key ≡ take h.ksz (drop 22 text) → IsKeyDecoded bytes (read_of h key (length text))
+  key_decoded key e = record { write = read_write bytes; stands = rw size_is read_is.stands; says = says key e }
+
+  pub key_again : (key : List ℕ) (v : Write) (rest : List ℕ) → key ≡ take h.ksz (drop 22 text) → RecordStands bytes v rest
+      → read_of h key (length text) ≡ without_value v
+  key_again key v rest e there = says key e ∙ ap without_value (reads bytes v rest there).write

@@ -1,13 +1,14 @@
 //! From a record to its write.
-ghost use Rattle.std.specs.Prelude.{◌≡◌, ◌+◌, ◌≤◌, ℕ, List, length, MatchResult, IfOk, IfErr};
+ghost use Rattle.std.specs.Prelude.{◌≡◌, ◌+◌, ◌≤◌, ℕ, List, length, take, MatchResult, IfOk, IfErr};
 ghost use Rattle.bk_base.specs.declared.writes.Write.{Write};
-ghost use Rattle.bk_laws.specs.Record.{RecordStands};
-ghost use Rattle.bk_record.specs.Header.{IsSound, body_in, value_length, write_in};
-ghost use Rattle.bk_record.specs.Stops.{IsDecoded, IsStop, IsWhole};
+ghost use Rattle.bk_laws.specs.Record.{RecordStands, value_length};
+ghost use Rattle.bk_record.specs.Header.{IsSound, body_in, write_in};
+ghost use Rattle.bk_record.specs.Stops.{IsChecked, IsDecoded, IsKeyDecoded, IsStop, IsWhole, without_value};
 ghost use Rattle.bk_record.specs.declared.decoding.Stop.TheVariants.{Memory as memory_stop};
 
-use crate::header::{CHECKSUM, HEADER, Header, TOMBSTONE};
-use bk_base::{Body, Key, Memory, Seq, Value, Write};
+use crate::header::Header;
+use bk_base::limits::{CHECKSUM, LONGEST_VALUE, RECORD_HEADER, TOMBSTONE};
+use bk_base::{Body, Key, Memory, Moment, Seq, Value, Write};
 use bk_crc::crc32;
 use std::alloc::Global;
 
@@ -17,6 +18,20 @@ pub struct Decoded {
     pub write: Write,
     pub size: u32,
     pub crc: u32,
+}
+
+/// What was read of a record without its value.
+#[derive(Debug, Drop)]
+pub struct DecodedKey {
+    pub key: Key,
+    pub seq: Seq,
+    pub moment: Moment,
+    /// Its length in bytes.
+    pub size: u32,
+    /// Its checksum.
+    pub crc: u32,
+    /// Whether it is a tombstone.
+    pub gone: bool,
 }
 
 /// Why no record was read. The causes are tested in this order.
@@ -42,6 +57,44 @@ pub fn decode(alloc: Global, bytes: &[u8]) -> Result<Decoded, Stop>
     ensures again { (w : Write) (rest : List ℕ) → RecordStands bytes.now w rest →
         MatchResult result (λ d. d.write ≡ w) (λ stop. stop ≡ memory_stop) }
 {
+    let (header, record) = checked(bytes)?;
+    match write_of(alloc, &header, &record[RECORD_HEADER..]) {
+        Ok(write) => Ok(Decoded {
+            write,
+            size: record.len() as u32,
+            crc: header.crc,
+        }),
+        Err(Memory) => Err(Stop::Memory),
+    }
+}
+
+/// The same without the value, which is neither copied nor kept: only the key takes memory. The
+/// checksum is tested over all of the record, so each refusal comes where `decode` has it.
+pub fn decode_key(alloc: Global, bytes: &[u8]) -> Result<DecodedKey, Stop>
+    ensures decoded { IfOk result (IsKeyDecoded bytes.now) }
+    ensures stop { IfErr result (IsStop bytes.now) }
+    ensures again { (w : Write) (rest : List ℕ) → RecordStands bytes.now w rest →
+        MatchResult result (λ d. d ≡ without_value w) (λ stop. stop ≡ memory_stop) }
+{
+    let (header, record) = checked(bytes)?;
+    match key_of(alloc, &header, &record[RECORD_HEADER..]) {
+        Ok(key) => Ok(DecodedKey {
+            key,
+            seq: Seq(header.seq),
+            moment: header.moment,
+            size: record.len() as u32,
+            crc: header.crc,
+            gone: header.vsz == TOMBSTONE,
+        }),
+        Err(Memory) => Err(Stop::Memory),
+    }
+}
+
+// The header and the bytes of the record at the front, whose checksum and fields are right.
+fn checked(bytes: &[u8]) -> Result<(Header, &[u8]), Stop>
+    ensures checked { IfOk result (λ x. IsChecked bytes.now x.0 x.1.now) }
+    ensures stop { IfErr result (IsStop bytes.now) }
+{
     let (header, record) = whole_record(bytes)?;
     let computed = crc32(&record[CHECKSUM..]);
     if header.crc != computed {
@@ -53,14 +106,7 @@ pub fn decode(alloc: Global, bytes: &[u8]) -> Result<Decoded, Stop>
     if !header.is_sound() {
         return Err(Stop::BadField);
     }
-    match write_of(alloc, &header, &record[HEADER..]) {
-        Ok(write) => Ok(Decoded {
-            write,
-            size: record.len() as u32,
-            crc: computed,
-        }),
-        Err(Memory) => Err(Stop::Memory),
-    }
+    Ok((header, record))
 }
 
 // The header at the front, and as many bytes as its sizes say.
@@ -71,7 +117,7 @@ fn whole_record(bytes: &[u8]) -> Result<(Header, &[u8]), Stop>
     if bytes.is_empty() {
         return Err(Stop::End);
     }
-    let Some((front, _rest)) = bytes.split_first_chunk::<HEADER>() else {
+    let Some((front, _rest)) = bytes.split_first_chunk::<RECORD_HEADER>() else {
         return Err(Stop::Short);
     };
     let header = Header::read(front);
@@ -88,9 +134,8 @@ fn write_of(alloc: Global, header: &Header, bytes: &[u8]) -> Result<Write, Memor
     requires sizes { length bytes.now ≡ header.now.ksz + value_length header.now.vsz }
     ensures { IfOk result (λ write. write ≡ write_in header.now bytes.now) }
 {
-    let (key, value) = bytes.split_at(usize::from(header.ksz));
-    let key = Key::new(key.to_vec(alloc)?).unwrap();
-    let body = body_of(alloc, header.vsz, value)?;
+    let key = key_of(alloc, header, bytes)?;
+    let body = body_of(alloc, header.vsz, &bytes[usize::from(header.ksz)..])?;
     Ok(Write {
         seq: Seq(header.seq),
         moment: header.moment,
@@ -99,8 +144,18 @@ fn write_of(alloc: Global, header: &Header, bytes: &[u8]) -> Result<Write, Memor
     })
 }
 
+// The key of a sound header, from the bytes behind it.
+fn key_of(alloc: Global, header: &Header, bytes: &[u8]) -> Result<Key, Memory>
+    requires sound { IsSound header.now }
+    requires sizes { length bytes.now ≡ header.now.ksz + value_length header.now.vsz }
+    ensures { IfOk result (λ key. key ≡ take header.now.ksz bytes.now) }
+{
+    let key = &bytes[..usize::from(header.ksz)];
+    Ok(Key::new(key.to_vec(alloc)?).unwrap())
+}
+
 fn body_of(alloc: Global, vsz: u32, value: &[u8]) -> Result<Body, Memory>
-    requires { (length value.now ≡ value_length vsz) × (value_length vsz ≤ 16777216) }
+    requires { (length value.now ≡ value_length vsz) × (value_length vsz ≤ LONGEST_VALUE) }
     ensures { IfOk result (λ body. body ≡ body_in vsz value.now) }
 {
     if vsz == TOMBSTONE {

@@ -6,7 +6,7 @@ mod encoding;
 mod header;
 mod laws;
 
-pub use decoding::{Decoded, Stop, decode};
+pub use decoding::{Decoded, DecodedKey, Stop, decode, decode_key};
 pub use encoding::encode;
 pub use header::Header;
 pub use laws::{header_says, one_list_of_records, one_record, one_stop};

@@ -44,9 +44,16 @@ fn records_are_decoded_whatever_follows(rt: HostRuntime) -> Result<(), Fail> {
     assert_eq!(rt; put.write.moment, Moment(5));
     assert_eq!(rt; put.write.key.bytes(), b"a".as_slice());
     assert!(rt; matches!(&put.write.body, Body::Put(value) if value.bytes() == b"1".as_slice()));
+    let put = decode_key(rt.alloc(), &bytes)?;
+    assert_eq!(rt;
+        (put.seq, put.moment, put.size, put.gone),
+        (Seq(1), Moment(5), 24, false)
+    );
+    assert_eq!(rt; (put.key.bytes(), put.crc), (b"a".as_slice(), 0xaff4_43c2));
     let tombstone = decode(rt.alloc(), TOMBSTONE)?;
     assert_eq!(rt; tombstone.size, 23);
     assert!(rt; matches!(tombstone.write.body, Body::Gone));
+    assert!(rt; decode_key(rt.alloc(), TOMBSTONE)?.gone);
     Ok(())
 }
 
@@ -94,5 +101,6 @@ const REFUSED: [(&[u8], Stop); 9] = [
 fn refusals_name_the_first_cause(rt: HostRuntime) {
     for (bytes, stop) in REFUSED {
         assert_eq!(rt; decode(rt.alloc(), bytes).err(), Some(stop));
+        assert_eq!(rt; decode_key(rt.alloc(), bytes).err(), Some(stop));
     }
 }

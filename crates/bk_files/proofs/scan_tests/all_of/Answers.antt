@@ -13,5 +13,5 @@ loop-writes-preserved g c = record {
       let stands = rw c.in-Some.is at found in
       let placed = rw c.in-Some.is at c.in_ok-found.ensures.placed in
       let place : c.next.new.self.place ≡ c.loop-writes.scan.place + size_of c.in-Some.found.write = placed.behind ∙ ap (λ (n : ℕ). c.loop-writes.scan.place + n) placed.size in
-      rw (c.in_ok-push.ensures.items, place) (first-more _ _ _ _ c.in-Some.found.write _ (c.loop-writes.invariant.first told) stands);
+      rw (c.in_ok-push.ensures.items, place) (first-more _ _ _ _ _ c.in-Some.found.write _ (c.loop-writes.invariant.first told) stands);
 }

@@ -9,7 +9,7 @@ invariant-loop-writes g l = record {
       → IsTold g.V.View.tells (g.V.View.left l.view) (g.V.View.rest l.view);
   len : file_len l.scan ≡ file_len l.initial.scan;
   first : IsTold g.V.View.tells (g.V.View.left l.initial.view) (g.V.View.rest l.initial.view)
-      → AreFirst (l.initial.scan.held ++ g.V.View.left l.initial.view) l.writes.items l.scan.place (l.scan.held ++ g.V.View.left l.view);
+      → AreFirst (l.initial.scan.held ++ g.V.View.left l.initial.view) l.initial.scan.place l.writes.items l.scan.place (l.scan.held ++ g.V.View.left l.view);
 }
 
 abbrev pub decreases-loop-writes : goal.decreases-loop-writes

@@ -1,7 +1,8 @@
 use Rattle.std.proofs.Common.{ℕ, ◌^◌, ◌<◌, Bool, true, false, cond, arith}
+use Rattle.bk_base.specs.declared.limits.TheConstants.{TOMBSTONE}
 use Rattle.bk_hint.proofs.rows.header.Goals as goal
 
-field_fits : (gone : Bool) (n : ℕ) → n < 2 ^ 32 → cond gone 4294967295 n < 2 ^ 32
+field_fits : (gone : Bool) (n : ℕ) → n < 2 ^ 32 → cond gone TOMBSTONE n < 2 ^ 32
 field_fits true n fits = omega arith
 field_fits false n fits = fits
 

@@ -1,7 +1,8 @@
 use Rattle.std.proofs.Common.{◌≡◌, ℕ, ◌+◌, ◌≤◌, List, length, take, drop, refl, sym, ap, subst, ◌∙◌, arith}
 use Rattle.std.proofs.lemmas.List.{take_rest}
+use Rattle.bk_base.specs.declared.limits.TheConstants.{LONGEST_KEY, LONGEST_VALUE, RECORD_HEADER}
 use Rattle.bk_laws.specs.Hint.{Hinted, RowsLeft}
-use Rattle.bk_laws.specs.Places.{value_length}
+use Rattle.bk_laws.specs.Record.{value_length}
 use Rattle.bk_hint.specs.Headers.{IsFirstRow, NoRow, row_in}
 use Rattle.bk_hint.specs.Passing.{Reading}
 use Rattle.bk_hint.proofs.RowsLeftBehind.{next_is, rows_none}
@@ -28,8 +29,8 @@ overflow_cast-version c =
     let first : IsFirstRow (drop c.self.inside.at bytes) h key rest =
     subst (λ (x : List ℕ). IsFirstRow x h key rest) (take_rest bytes c.self.inside.at) c.in_ok-header.ensures in
     let next = next_is bytes c.self.inside.at c.requires.0 c.requires.1 h key rest here first in
-    let value : value_length h.vsz ≤ 16777216 = next.sound.value in
-    let short : length key ≤ 65535 = next.fits.key.bounds.short in
+    let value : value_length h.vsz ≤ LONGEST_VALUE = next.sound.value in
+    let short : length key ≤ LONGEST_KEY = next.fits.key.bounds.short in
     omega (arith, c.record_size.ensures, first.key_length, value, short)
 
 pub returns : goal.returns
@@ -45,7 +46,7 @@ returns c = λ covered rows left.
     let first : IsFirstRow (drop c.self.inside.at bytes) h key rest =
     subst (λ (x : List ℕ). IsFirstRow x h key rest) (take_rest bytes c.self.inside.at) c.in_ok-header.ensures in
     let next = next_is bytes c.self.inside.at covered rows h key rest here first in
-    let size : c.record_size.result ≡ 22 + length key + value_length h.vsz =
+    let size : c.record_size.result ≡ RECORD_HEADER + length key + value_length h.vsz =
     omega (arith, c.record_size.ensures, first.key_length) in
     let gone = c.is_tombstone.ensures in (
       row_in h key,
