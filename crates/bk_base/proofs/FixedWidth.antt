@@ -54,3 +54,6 @@ from_be_bytes_2-lt bytes fits = omega (arith, fits 0, fits 1)
 
 pub from_be_bytes_4-lt : (bytes : List ℕ) → AreBytes bytes → from_be_bytes w32 bytes < 2 ^ 32
 from_be_bytes_4-lt bytes fits = omega (arith, fits 0, fits 1, fits 2, fits 3)
+
+pub from_be_bytes_8-lt : (bytes : List ℕ) → AreBytes bytes → from_be_bytes w64 bytes < 2 ^ 64
+from_be_bytes_8-lt bytes fits = omega (arith, fits 0, fits 1, fits 2, fits 3, fits 4, fits 5, fits 6, fits 7)

@@ -19,6 +19,9 @@ pub const MOST_FOLDS: u8 = 64;
 /// The bytes of a record before its key.
 pub const RECORD_HEADER: usize = 22;
 
+/// The bytes of a hint's row before its key, and of its end mark.
+pub const HINT_HEADER: usize = 30;
+
 /// The bytes of a checksum.
 pub const CHECKSUM: usize = 4;
 

@@ -1,2 +1,3 @@
 mod WireRows
 pub mod LastWrites
+pub mod RecordBytes

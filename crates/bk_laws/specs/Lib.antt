@@ -5,3 +5,4 @@ pub mod Session
 pub mod Record
 pub mod Version
 pub mod SwapList
+pub mod Hint

@@ -6,7 +6,7 @@
 --   bytes 10 to 13  the length of the value, or 4,294,967,295 for a tombstone
 --   bytes 14 to 21  the seq
 --   from 22 on      the key, and then the value
-use Rattle.std.specs.Prelude.{◌≡◌, ℕ, ◌+◌, ◌^◌, ◌<◌, ◌≤◌, List, ◌++◌, [], length, drop}
+use Rattle.std.specs.Prelude.{◌≡◌, ℕ, ◌+◌, ◌^◌, ◌<◌, ◌≤◌, ◌==◌, if◌then◌else◌, Bool, List, ◌++◌, [], length, drop}
 use Rattle.std.specs.Int.{w16, w32, w64, to_be_bytes}
 use Rattle.std.specs.List.{AllByRecursion, flat_map}
 use Rattle.bk_base.specs.declared.limits.TheConstants.{LAST_SEQ, RECORD_HEADER, TOMBSTONE}
@@ -25,6 +25,13 @@ value_of Gone = []
 abbrev pub value_field : Body → ℕ
 value_field (Put value) = length value
 value_field Gone = TOMBSTONE
+
+-- what that field says: whether the write is a tombstone, and how many bytes the value has
+abbrev pub is_tombstone_field : ℕ → Bool
+is_tombstone_field vsz = vsz == TOMBSTONE
+
+abbrev pub value_length : ℕ → ℕ
+value_length vsz = if vsz == TOMBSTONE then 0 else vsz
 
 -- the header behind the checksum
 unfoldable pub fields_of : Write → List ℕ

@@ -1,5 +1,5 @@
 -- What is known of a record without its value.
-use Rattle.std.specs.Prelude.{ℕ, Bool, false, true}
+use Rattle.std.specs.Prelude.{ℕ, ◌+◌, Bool, false, true, List, [], ◌∷◌}
 use Rattle.bk_base.specs.declared.numbers.FileId.{FileId}
 use Rattle.bk_base.specs.declared.writes.Body.{Body}
 use Rattle.bk_base.specs.declared.writes.Body.TheVariants.{Put, Gone}
@@ -22,3 +22,8 @@ version_at file place w = record {
   crc = checksum_of w;
   gone = is_tombstone w.body;
 }
+
+-- the keys and the versions of writes whose records stand one after the other from this place on
+abbrev pub placed_from : FileId → ℕ → List Write → List (List ℕ × Version)
+placed_from file place [] = []
+placed_from file place (w ∷ ws) = (w.key, version_at file place w) ∷ placed_from file (place + size_of w) ws

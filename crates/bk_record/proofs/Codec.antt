@@ -16,23 +16,14 @@ use Rattle.bk_base.proofs.FixedWidth.{to_be_bytes-from_be_bytes_2, to_be_bytes-f
 use Rattle.bk_crc.specs.Crc.{crc_of}
 use Rattle.bk_laws.specs.Record.{IsWritable, FitsBody, RecordStands, checksum_of, covered_of, fields_of, record_of, size_of, value_field, value_of}
 use Rattle.bk_record.specs.declared.header.Header.{Header}
-use Rattle.bk_record.specs.Header.{IsSound, body_in, header_of, said_size, value_length, write_in}
+use Rattle.bk_laws.specs.Record.{value_length}
+pub use Rattle.bk_laws.proofs.RecordBytes.{length-record_of}
+use Rattle.bk_laws.proofs.RecordBytes.{length_bound, length_said}
+use Rattle.bk_record.specs.Header.{IsSound, body_in, header_of, said_size, write_in}
 use Rattle.bk_record.specs.Stops.{computed_of}
 use Rattle.bk_record.proofs.Headers.{header_of-record_of}
 
 -- ---- what stands at the front
-
-pub length-record_of : (w : Write) → length (record_of w) ≡ size_of w
-unfolding record_of covered_of fields_of
-length-record_of w = omega (arith, length-append w.key (value_of w.body))
-
-length_said : (b : Body) → FitsBody b → value_length (value_field b) ≡ length (value_of b)
-length_said (Put value) fits = let bound : length value ≤ LONGEST_VALUE = fits.bounds in grind (arith, nat_tests)
-length_said Gone fits = refl
-
-length_bound : (b : Body) → FitsBody b → length (value_of b) ≤ LONGEST_VALUE
-length_bound (Put value) fits = fits.bounds
-length_bound Gone fits = omega arith
 
 not_a_tombstone : (n : ℕ) (value : List ℕ) → n ≤ LONGEST_VALUE → body_in n value ≡ Put value
 not_a_tombstone n value bound = let no : eqb n TOMBSTONE ≡ false = grind (arith, nat_tests) in rw no refl

@@ -5,7 +5,7 @@ use Rattle.bk_base.specs.declared.limits.TheConstants.{LONGEST_VALUE, RECORD_HEA
 use Rattle.bk_base.specs.declared.writes.Write.{Write}
 use Rattle.bk_base.specs.declared.writes.Body.{Body}
 use Rattle.bk_base.specs.declared.writes.Body.TheVariants.{Put, Gone}
-use Rattle.bk_laws.specs.Record.{IsSeq}
+use Rattle.bk_laws.specs.Record.{IsSeq, value_length}
 use Rattle.bk_record.specs.declared.header.Header.{Header}
 
 -- the numbers of the header's bytes, each from where its field begins
@@ -17,10 +17,6 @@ header_of bytes = record {
   vsz = from_be_bytes w32 (drop 10 bytes);
   ksz = from_be_bytes w16 (drop 8 bytes);
 }
-
--- how many bytes the value has by its field; a tombstone has none
-abbrev pub value_length : ℕ → ℕ
-value_length vsz = if vsz == TOMBSTONE then 0 else vsz
 
 -- how many bytes the record has by its sizes
 abbrev pub said_size : Header → ℕ

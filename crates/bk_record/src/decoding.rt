@@ -1,8 +1,8 @@
 //! From a record to its write.
 ghost use Rattle.std.specs.Prelude.{◌≡◌, ◌+◌, ◌≤◌, ℕ, List, length, take, MatchResult, IfOk, IfErr};
 ghost use Rattle.bk_base.specs.declared.writes.Write.{Write};
-ghost use Rattle.bk_laws.specs.Record.{RecordStands};
-ghost use Rattle.bk_record.specs.Header.{IsSound, body_in, value_length, write_in};
+ghost use Rattle.bk_laws.specs.Record.{RecordStands, value_length};
+ghost use Rattle.bk_record.specs.Header.{IsSound, body_in, write_in};
 ghost use Rattle.bk_record.specs.Stops.{IsChecked, IsDecoded, IsKeyDecoded, IsStop, IsWhole, without_value};
 ghost use Rattle.bk_record.specs.declared.decoding.Stop.TheVariants.{Memory as memory_stop};
 

@@ -1,7 +1,7 @@
 //! The header of a record: numbers of fixed widths, big-endian.
 ghost use Rattle.std.specs.Prelude.{◌≡◌, ◌↔◌, IsTrue};
-ghost use Rattle.bk_laws.specs.Record.{FitsBody, IsSeq, IsWritable, fields_of, value_field};
-ghost use Rattle.bk_record.specs.Header.{IsSound, header_of, said_size, value_length};
+ghost use Rattle.bk_laws.specs.Record.{FitsBody, IsSeq, IsWritable, fields_of, value_field, value_length};
+ghost use Rattle.bk_record.specs.Header.{IsSound, header_of, said_size};
 
 use bk_base::limits::{CHECKSUM, LAST_SEQ, LONGEST_VALUE, RECORD_HEADER, TOMBSTONE};
 use bk_base::{Body, Moment, Write};
