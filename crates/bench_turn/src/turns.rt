@@ -63,7 +63,8 @@ fn hold_in_each<R: Threads + Wait + Sync>(
 )
     requires { All (HasPass (turn_id turn.now)) places.old }
     ensures turn { All (HasPass (turn_id turn.now)) places.new }
-    ensures weight { (i : ℕ) (d : Option Pass) → i < length places.old → (place_view (slice_index_or places.new i d)).weight ≡ (place_view (slice_index_or places.old i d)).weight }
+    ensures weight { (i : ℕ) (d : Option Pass) → i < length places.old
+        → (place_view (slice_index_or places.new i d)).weight ≡ (place_view (slice_index_or places.old i d)).weight }
 {
     for_each_mut(
         rt,

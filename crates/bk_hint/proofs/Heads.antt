@@ -30,11 +30,22 @@ length-head_text m k v a s c = refl
 pub AreBytes-head_text : (m k v a s c : ℕ) → AreBytes (head_text m k v a s c)
 unfolding head_text
 AreBytes-head_text m k v a s c =
-    let two = AreBytes-append (to_be_bytes w32 m) (to_be_bytes w16 k) (AreBytes-to_be_bytes_4 m) (AreBytes-to_be_bytes_2 k) in
-    let three = AreBytes-append (to_be_bytes w32 m ++ to_be_bytes w16 k) (to_be_bytes w32 v) two (AreBytes-to_be_bytes_4 v) in
-    let four = AreBytes-append (to_be_bytes w32 m ++ to_be_bytes w16 k ++ to_be_bytes w32 v) (to_be_bytes w64 a) three (AreBytes-to_be_bytes_8 a) in
-    let five = AreBytes-append (to_be_bytes w32 m ++ to_be_bytes w16 k ++ to_be_bytes w32 v ++ to_be_bytes w64 a) (to_be_bytes w64 s) four (AreBytes-to_be_bytes_8 s) in
-    AreBytes-append (to_be_bytes w32 m ++ to_be_bytes w16 k ++ to_be_bytes w32 v ++ to_be_bytes w64 a ++ to_be_bytes w64 s) (to_be_bytes w32 c) five (AreBytes-to_be_bytes_4 c)
+    let two =
+    AreBytes-append (to_be_bytes w32 m) (to_be_bytes w16 k) (AreBytes-to_be_bytes_4 m)
+    (AreBytes-to_be_bytes_2 k) in
+    let three =
+    AreBytes-append (to_be_bytes w32 m ++ to_be_bytes w16 k) (to_be_bytes w32 v) two
+    (AreBytes-to_be_bytes_4 v) in
+    let four =
+    AreBytes-append (to_be_bytes w32 m ++ to_be_bytes w16 k ++ to_be_bytes w32 v)
+    (to_be_bytes w64 a) three (AreBytes-to_be_bytes_8 a) in
+    let five =
+    AreBytes-append
+    (to_be_bytes w32 m ++ to_be_bytes w16 k ++ to_be_bytes w32 v ++ to_be_bytes w64 a)
+    (to_be_bytes w64 s) four (AreBytes-to_be_bytes_8 s) in
+    AreBytes-append
+    (to_be_bytes w32 m ++ to_be_bytes w16 k ++ to_be_bytes w32 v ++ to_be_bytes w64 a
+    ++ to_be_bytes w64 s) (to_be_bytes w32 c) five (AreBytes-to_be_bytes_4 c)
 
 pub head_says : (h : Header) (rest : List ℕ) → FitsHead h → header_of (text_of h ++ rest) ≡ h
 unfolding header_of head_text
@@ -93,5 +104,7 @@ head_read bytes fits long =
 
 pub header_of-take : (bytes : List ℕ) → 30 ≤ length bytes → header_of (take 30 bytes) ≡ header_of bytes
 unfolding header_of
-header_of-take (a ∷ b ∷ c ∷ d ∷ e ∷ f ∷ g ∷ h ∷ i ∷ j ∷ k ∷ l ∷ m ∷ n ∷ o ∷ p ∷ q ∷ r ∷ s ∷ t ∷ u ∷ v ∷ w ∷ x ∷ y ∷ z ∷ aa ∷ bb ∷ cc' ∷ dd ∷ rest) long = refl
+header_of-take
+    (a ∷ b ∷ c ∷ d ∷ e ∷ f ∷ g ∷ h ∷ i ∷ j ∷ k ∷ l ∷ m ∷ n ∷ o ∷ p ∷ q ∷ r ∷ s ∷ t ∷ u ∷ v ∷ w ∷ x ∷ y
+    ∷ z ∷ aa ∷ bb ∷ cc' ∷ dd ∷ rest) long = refl
 header_of-take _ long = absurd (omega arith)

@@ -29,7 +29,8 @@ use Rattle.bk_laws.proofs.RecordBytes.{checksum_of-lt, field_fits, length-record
 AreBytes-row_text : (r : Hinted) → FitsRow r → AreBytes (row_text r)
 unfolding row_text
 AreBytes-row_text r fits =
-    AreBytes-append (text_of (head_of r)) r.key (AreBytes-head_text r.moment (length r.key) r.vsz r.at r.seq r.crc) fits.key.bytes
+    AreBytes-append (text_of (head_of r)) r.key
+    (AreBytes-head_text r.moment (length r.key) r.vsz r.at r.seq r.crc) fits.key.bytes
 
 AreBytes-rows_text : (rows : List Hinted) → AllByRecursion FitsRow rows → AreBytes (rows_text rows)
 AreBytes-rows_text [] fit = λ i. omega arith
@@ -121,7 +122,8 @@ written_is_good writes len fit within small =
     rows_are_good covered len (rows_from 0 writes) (rows_fit 0 writes fit (omega arith))
     (rows_sound 0 covered writes fit (omega arith)) (omega (arith, rows_few 0 writes)) within (omega arith)
 
-told_record : (file : FileId) (at : ℕ) (w : Write) → IsWritable w → version_in file (row_from at w) ≡ version_at file at w
+told_record : (file : FileId) (at : ℕ) (w : Write) → IsWritable w
+    → version_in file (row_from at w) ≡ version_at file at w
 told_record file at w fits =
     let size : RECORD_HEADER + length w.key + value_length (row_from at w).vsz ≡ size_of w =
     omega (arith, length_said w.body fits.body) in

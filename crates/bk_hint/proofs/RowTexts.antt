@@ -47,7 +47,13 @@ reads bytes r rest stands =
     let behind : drop 30 bytes ≡ r.key ++ rest =
     ap (drop 30) whole ∙ drop_at (text_of (head_of r)) (r.key ++ rest) 30 thirty in
     record {
-      long = omega (arith, ap length whole, length-append (text_of (head_of r)) (r.key ++ rest), length-append r.key rest, thirty);
+      long = omega (
+        arith,
+        ap length whole,
+        length-append (text_of (head_of r)) (r.key ++ rest),
+        length-append r.key rest,
+        thirty,
+      );
       head = ap header_of whole ∙ head_says (head_of r) (r.key ++ rest) (head_fits r stands.fits);
       key = ap (take (length r.key)) behind ∙ take_at r.key rest (length r.key) refl;
       rest_is = ap (drop (length r.key)) behind ∙ drop_at r.key rest (length r.key) refl;

@@ -67,7 +67,8 @@ key_given bytes old new given covered rows left is =
     subst IsKey (sym is.4) fit.0.key.bounds
 
 -- so the reader goes on
-pub left_after : (bytes : List ℕ) (old new : Reading) (found : Option (Version × List ℕ)) (covered : ℕ) (rows : List Hinted)
+pub left_after : (bytes : List ℕ) (old new : Reading) (found : Option (Version × List ℕ))
+    (covered : ℕ) (rows : List Hinted)
     → RowsLeft bytes old.at covered rows → Gives bytes old new found covered rows
     → (later : List Hinted) × RowsLeft bytes new.at covered later
 left_after bytes old new None covered rows left is =

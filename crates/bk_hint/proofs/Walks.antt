@@ -51,7 +51,8 @@ later_bad covered rows r n first = record {
   before = first.before;
   row = first.row;
   later = first.later ++ r ∷ [];
-  whole = ap (λ (x : List Hinted). x ++ r ∷ []) first.whole ∙ append_assoc first.before (first.row ∷ first.later) (r ∷ []);
+  whole = ap (λ (x : List Hinted). x ++ r ∷ []) first.whole
+      ∙ append_assoc first.before (first.row ∷ first.later) (r ∷ []);
   place = first.place;
   sound = first.sound;
   bad = first.bad;
@@ -82,7 +83,8 @@ walked-more covered rows r count bad sound to from walked = record {
 }
 
 -- one row further
-pub passed-more : (bytes left : List ℕ) (covered count : ℕ) (bad : Option ℕ) (h : Header) (key rest : List ℕ) (sound : Bool)
+pub passed-more : (bytes left : List ℕ) (covered count : ℕ) (bad : Option ℕ) (h : Header)
+    (key rest : List ℕ) (sound : Bool)
     → Passed bytes left covered count bad → IsFirstRow left h key rest
     → (IsTrue sound → IsSoundHeader covered h) → (IsSoundHeader covered h → IsTrue sound)
     → Passed bytes rest covered (count + 1) (first_by bad count sound)
@@ -118,7 +120,8 @@ passed-all bytes left covered count bad passed none =
       passed.rows,
       record {
         fit = passed.fit;
-        whole = passed.text ∙ ap (λ (x : List ℕ). rows_text passed.rows ++ x) empty ∙ append-nil (rows_text passed.rows);
+        whole = passed.text ∙ ap (λ (x : List ℕ). rows_text passed.rows ++ x) empty
+            ∙ append-nil (rows_text passed.rows);
       },
       passed.walked,
     )
@@ -128,7 +131,12 @@ passed-all bytes left covered count bad passed none =
 pub shorter : (left : List ℕ) (h : Header) (key rest : List ℕ) → IsFirstRow left h key rest
     → length rest < length left
 shorter left h key rest first =
-    omega (arith, ap length first.stands.whole, length-append (row_text (row_in h key)) rest, length-row_text (row_in h key))
+    omega (
+      arith,
+      ap length first.stands.whole,
+      length-append (row_text (row_in h key)) rest,
+      length-row_text (row_in h key),
+    )
 
 pub some_left : (n : ℕ) → false ≡ eqb n 0 → 0 < n
 some_left zero is = absurd (false≢true is)

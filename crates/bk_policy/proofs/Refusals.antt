@@ -17,7 +17,8 @@ IsOfKey (NotInteger name) = Unit {0}
 IsOfKey (OutOfRange name value) = Unit {0}
 IsOfKey Memory = ⊥
 
-of_value : (s : Settings) (name : SettingName) (b : Bool) (n : ℕ) (z : ℤ) → IfErr (after_value s name (cond b (Ok n) (Err (OutOfRange name z)))) IsOfKey
+of_value : (s : Settings) (name : SettingName) (b : Bool) (n : ℕ) (z : ℤ)
+    → IfErr (after_value s name (cond b (Ok n) (Err (OutOfRange name z)))) IsOfKey
 of_value s name true n z = tt
 of_value s name false n z = tt
 

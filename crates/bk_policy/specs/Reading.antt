@@ -33,7 +33,8 @@ after_member s key found = after_named s (name_of key) found
 
 -- ---- the settings after all members of a table
 
-abbrev pub and_then : Result Settings SettingsError → (Settings → Result Settings SettingsError) → Result Settings SettingsError
+abbrev pub and_then : Result Settings SettingsError → (Settings → Result Settings SettingsError)
+    → Result Settings SettingsError
 and_then (Ok s) next = next s
 and_then (Err e) next = Err e
 

@@ -10,7 +10,8 @@ use Rattle.bk_swap.proofs.Bytes.{AreBytes-append, four_bytes}
 
 -- ---- what is read, four bytes at a time
 
-pub ids_in-first : (bytes : List ℕ) → 4 ≤ length bytes → ids_in bytes ≡ from_be_bytes w32 (take 4 bytes) ∷ ids_in (drop 4 bytes)
+pub ids_in-first : (bytes : List ℕ) → 4 ≤ length bytes
+    → ids_in bytes ≡ from_be_bytes w32 (take 4 bytes) ∷ ids_in (drop 4 bytes)
 ids_in-first (a ∷ b ∷ c ∷ d ∷ rest) long = refl
 ids_in-first _ long = absurd (omega arith)
 
@@ -47,7 +48,8 @@ rest_fits : (a b c d : ℕ) (rest : List ℕ) → AreBytes (a ∷ b ∷ c ∷ d 
 rest_fits a b c d rest fits i = fits (suc (suc (suc (suc i))))
 
 -- the number of four bytes
-pub four_say : (bytes : List ℕ) → 4 ≤ length bytes → AreBytes bytes → to_be_bytes w32 (from_be_bytes w32 bytes) ≡ take 4 bytes
+pub four_say : (bytes : List ℕ) → 4 ≤ length bytes → AreBytes bytes
+    → to_be_bytes w32 (from_be_bytes w32 bytes) ≡ take 4 bytes
 four_say (a ∷ b ∷ c ∷ d ∷ rest) long fits = be_bytes_4 (a ∷ b ∷ c ∷ d ∷ []) _ refl (four_fit a b c d rest fits) refl
 four_say _ long fits = absurd (omega arith)
 
@@ -75,4 +77,5 @@ says (suc n) _ fits len = absurd (omega arith)
 
 pub AreBytes-ids_text : (ids : List ℕ) → AreBytes (ids_text ids)
 AreBytes-ids_text [] = λ i. omega arith
-AreBytes-ids_text (id ∷ ids) = AreBytes-append (to_be_bytes w32 id) (ids_text ids) (four_bytes id) (AreBytes-ids_text ids)
+AreBytes-ids_text (id ∷ ids) =
+    AreBytes-append (to_be_bytes w32 id) (ids_text ids) (four_bytes id) (AreBytes-ids_text ids)

@@ -33,7 +33,8 @@ pub record SeenFromTheFront (first serving : ℕ) (opening : Opening) (longest :
   pub known : (k : ℕ) × (seat : Seated) × (get_elem? seats k ≡ some seat)
       × (is_live seat.stage ≡ true) × (seat.view.seen ≡ longest)
 
--- 3. The slot is away exactly while the first seat fills it or the seat whose ticket is served has it. Until it was filled there is no other seat, no ticket is out and it is empty.
+-- 3. The slot is away exactly while the first seat fills it or the seat whose ticket is served has it.
+-- Until it was filled there is no other seat, no ticket is out and it is empty.
 pub record SlotHasItsPlace {S : Type 0} (first serving ticket : ℕ)
     (homes : List (maybe.Option (Option S))) (seats : List Seated) : Type 0 where
   pub turns : (k : ℕ) (seat : Seated) → get_elem? seats k ≡ some seat → (t : ℕ) → seat.stage ≡ Holding t → t ≡ serving

@@ -133,7 +133,8 @@ impl<S: Stands> Turn<S> {
 fn farthest(places: &[Option<Pass>]) -> usize
     requires { 0 < length places.now }
     ensures within { result < length places.now }
-    ensures farthest { (k : ℕ) (d : Option Pass) → k < length places.now → end_of (place_view (slice_index_or places.now k d)) ≤ end_of (place_view (slice_index_or places.now result d)) }
+    ensures farthest { (k : ℕ) (d : Option Pass) → k < length places.now
+        → end_of (place_view (slice_index_or places.now k d)) ≤ end_of (place_view (slice_index_or places.now result d)) }
 {
     let mut most = 0;
     for i in 0..places.len() {

@@ -94,7 +94,9 @@ pub(crate) fn draw<S: Stands, R: Wait>(
     requires ready { (seat.old.me.0.stage ≡ Idle) × (seat.old.me.1 ≡ []) }
     requires from { from ≢ 18446744073709551615 }
     ensures table { seat.new.table_id ≡ seat.old.table_id }
-    ensures drawn { MatchOption result (seat.new.me ≡ (found_full seat.old.me.0, [])) (λ t. (seat.new.me ≡ (with_stage (Waiting t) seat.old.me.0, [])) × (seat.old.me.0.view.full ≡ false) × (t < 18446744073709551615)) }
+    ensures drawn { MatchOption result (seat.new.me ≡ (found_full seat.old.me.0, []))
+        (λ t. (seat.new.me ≡ (with_stage (Waiting t) seat.old.me.0, []))
+        × (seat.old.me.0.view.full ≡ false) × (t < 18446744073709551615)) }
 {
     let mut ticket = from;
     for _ in rt.forever() {
@@ -142,7 +144,11 @@ pub(crate) fn serve<S: Stands, A: Adds>(words: &Words<S>, seat: &mut Seat<S>, pl
     requires stands { let view = seat.old.me.0.view in S.stands value view.first view.opening (view.seen ++ A.added ∷ []) }
     requires own { A.added.entry.caller ≡ number_at seat.old.me.0.view.number place }
     ensures table { seat.new.table_id ≡ seat.old.table_id }
-    ensures served { let view = seat.old.me.0.view in seat.new.me ≡ (seated Idle (record view { seen = view.seen ++ A.added ∷ []; number = Some (number_at view.number place) }), []) }
+    ensures served { let view = seat.old.me.0.view in seat.new.me ≡ (
+      seated Idle
+          (record view { seen = view.seen ++ A.added ∷ []; number = Some (number_at view.number place) }),
+      [],
+    ) }
 {
     put(words, seat, value);
     let served = words.fetch_add::<Serve<A>>(seat, SERVING, 1);

@@ -171,7 +171,8 @@ fn push_by_two<R: Threads + Wait + Abort + Sync>(
         { push_all(rt, turn, left, 0, 1_000, 0) },
         &mut ||
             requires { HasPass (turn_id turn.now) right.now }
-            ensures { HasPass (turn_id turn.entry.now) right.exit.now × ((place_view right.exit.now).weight ≡ (place_view right.entry.now).weight) }
+            ensures { HasPass (turn_id turn.entry.now) right.exit.now
+                × ((place_view right.exit.now).weight ≡ (place_view right.entry.now).weight) }
         { push_all(rt, turn, right, 1_000, 2_000, 0) },
     );
 }
@@ -235,7 +236,8 @@ fn push_by_each<R: Threads + Wait + Abort + Sync>(
 )
     requires { All (HasPass (turn_id turn.now)) places.old × (length places.old ≤ 16) }
     ensures turn { All (HasPass (turn_id turn.now)) places.new }
-    ensures weight { (i : ℕ) (d : Option Pass) → i < length places.old → (place_view (slice_index_or places.new i d)).weight ≡ (place_view (slice_index_or places.old i d)).weight }
+    ensures weight { (i : ℕ) (d : Option Pass) → i < length places.old
+        → (place_view (slice_index_or places.new i d)).weight ≡ (place_view (slice_index_or places.old i d)).weight }
 {
     for_each_mut(
         rt,
@@ -296,7 +298,8 @@ fn split_beside_pushes<R: Threads + Wait + Abort + Sync>(
         { split_and_join(turn, left, 500) },
         &mut ||
             requires { HasPass (turn_id turn.now) right.now }
-            ensures { HasPass (turn_id turn.entry.now) right.exit.now × ((place_view right.exit.now).weight ≡ (place_view right.entry.now).weight) }
+            ensures { HasPass (turn_id turn.entry.now) right.exit.now
+                × ((place_view right.exit.now).weight ≡ (place_view right.entry.now).weight) }
         { push_all(rt, turn, right, 0, 500, 0) },
     );
 }

@@ -6,7 +6,11 @@ use Rattle.bk_hint.proofs.judging.whole.Goals as goal
 pub returns-in_err-front : goal.returns-in_err-front
 returns-in_err-front c =
     rw c.from_residual.ensures
-    (λ covered rows crc hint. omega (arith, (parts c.args.bytes.now covered rows crc hint).long, c.in_err-front.ensures.cases))
+    (λ covered rows crc hint. omega (
+      arith,
+      (parts c.args.bytes.now covered rows crc hint).long,
+      c.in_err-front.ensures.cases,
+    ))
 
 pub returns-in_err-walk : goal.returns-in_err-walk
 returns-in_err-walk c =

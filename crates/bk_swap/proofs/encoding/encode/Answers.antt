@@ -16,6 +16,7 @@ returns-clause-ok c =
     c.append_counted-2.ensures.text ∙ ap (λ (x : List ℕ). x ++ counted_text l.outputs)
     (c.append_counted.ensures.text ∙ ap (λ (x : List ℕ). x ++ counted_text l.inputs) c.in_ok-reserve.ensures.items) in
     let check : c.crc32-check.result ≡ crc_of (drop begin text) =
-    c.crc32-check.ensures ∙ ap crc_of (take_rest c.deref.result.now begin) ∙ ap (λ (x : List ℕ). crc_of (drop begin x)) c.deref.ensures.value in
+    c.crc32-check.ensures ∙ ap crc_of (take_rest c.deref.result.now begin)
+    ∙ ap (λ (x : List ℕ). crc_of (drop begin x)) c.deref.ensures.value in
     c.in_ok-extend_from_slice.ensures.items ∙ ap (λ (x : List ℕ). text ++ x) c.to_be_bytes.ensures
     ∙ appended old l text begin c.crc32-check.result is (omega (arith, c.len-begin.ensures)) check

@@ -14,7 +14,8 @@ returns-in_err-header c = λ covered rows left.
     let at : c.self.inside.at ≡ c.args.self.now.at = ap (λ (r : Reading). r.at) c.self.view_is in
     let here : RowsLeft bytes c.self.inside.at covered rows =
     subst (λ (n : ℕ). RowsLeft bytes n covered rows) (sym at) left in
-    let none : NoRow (drop c.self.inside.at bytes) = subst NoRow (take_rest bytes c.self.inside.at) c.in_err-header.ensures in
+    let none : NoRow (drop c.self.inside.at bytes) =
+    subst NoRow (take_rest bytes c.self.inside.at) c.in_err-header.ensures in
     rw c.from_residual.ensures (rows_none bytes c.self.inside.at covered rows here none, refl)
 
 pub overflow_cast-version : goal.overflow_cast-version

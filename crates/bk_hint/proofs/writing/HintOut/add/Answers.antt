@@ -17,7 +17,9 @@ returns-clause-ok c =
     (λ i. (c.text-text.ensures ∙ ap text_of c.header.ensures.head) i ++ c.bytes-key.ensures.value i)
     ∙ sym (row_text-parts r) in
     c.in_ok-extend_from_slice-2.ensures.items
-    ∙ ap (λ (x : List ℕ). x ++ key) (c.in_ok-extend_from_slice.ensures.items ∙ ap (λ (x : List ℕ). x ++ text) c.in_ok-reserve.ensures.items)
+    ∙ ap (λ (x : List ℕ). x ++ key)
+    (c.in_ok-extend_from_slice.ensures.items
+    ∙ ap (λ (x : List ℕ). x ++ text) c.in_ok-reserve.ensures.items)
     ∙ append_assoc items text key
     ∙ ap (λ (x : List ℕ). items ++ x) row_is
 
