@@ -64,4 +64,3 @@ unfolding record_of
 AreBytes-record_of w fits =
     AreBytes-append (to_be_bytes w32 (checksum_of w)) (covered_of w)
     (AreBytes-to_be_bytes_4 (checksum_of w)) (AreBytes-covered_of w fits)
-
