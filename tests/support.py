@@ -8,20 +8,19 @@ import functools
 import os
 import pathlib
 import select
-import struct
 import subprocess
 import tempfile
 import threading
 import time
 import unittest
-import zlib
+
+# Also for the tests, which take all names from here.
+from records import HEADER, LARGEST_KEY, LARGEST_VALUE, MOST_IN_FILE, fault_of_store, parsed, record
 
 CRATE = pathlib.Path(__file__).resolve().parent.parent / "crates" / "bitcaskd"
 DATA_FILE = "1.bitcask.data"
-MOST_IN_FILE = 67_108_864  # past this many bytes a data file takes no further record
+QUARTER = MOST_IN_FILE // 4 - HEADER.size - 1  # of a value: its record under a key of one byte is a quarter of a file
 LOCK_FILE = "bitcask.write.lock"
-LARGEST_KEY = 65_535
-LARGEST_VALUE = 16_777_216
 SECONDS = 60  # that one run of the program may take
 
 
@@ -61,12 +60,6 @@ def found(value):
 
 
 ABSENT = b"NONE\n"
-
-
-def record(moment, seq, key, value):
-    """A record as it stands in a data file: checksum, moment, sizes, sequence number, key and value."""
-    checked = struct.pack(">IHIQ", moment, len(key), len(value), seq) + key + value
-    return struct.pack(">I", zlib.crc32(checked)) + checked
 
 
 def run(*words, given=b"", **options):
@@ -166,11 +159,14 @@ class StoreTest(unittest.TestCase):
 
     def assert_holds(self, writes, since=0, name=DATA_FILE, first=1):
         """The data file is exactly the records of these puts, numbered from `first`, with moments from `since` to now."""
-        text = (self.folder / name).read_bytes()
-        now, packed = int(time.time()), bytearray()
-        for seq, (key, value) in enumerate(writes, first):
-            (moment,) = struct.unpack_from(">I", text[len(packed):len(packed) + 8].ljust(8, b"\0"), 4)
-            self.assertTrue(since <= moment <= now, f"moment {moment} of record {seq}")
-            packed += record(moment, seq, key, value)
-        self.assertEqual(len(text), len(packed))
-        self.assertTrue(text == packed, "the data file has other bytes")
+        records, rest = parsed((self.folder / name).read_bytes())
+        self.assertEqual((len(records), len(rest)), (len(writes), 0))
+        for seq, (it, (key, value)) in enumerate(zip(records, writes), first):
+            self.assertTrue((it.seq, it.key, it.value) == (seq, key, value), f"record {seq} is another")
+            self.assertTrue(since <= it.moment <= int(time.time()), f"moment {it.moment} of record {seq}")
+
+
+def fault_of_folder(folder, writes, acknowledged, since):
+    """What is wrong with the data files in a folder of a run that began at this time, as `fault_of_store` tells it."""
+    files = {int(path.name.split(".")[0]): path.read_bytes() for path in folder.glob("*.bitcask.data")}
+    return fault_of_store(files, writes, acknowledged, range(int(since), int(time.time()) + 1))

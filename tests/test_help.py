@@ -14,8 +14,21 @@ class Help(StoreTest):
         for part in ("bitcaskd pipe DIR", "PUT", "GET", "--help", "--version"):
             self.assertIn(part, text)
         statuses = {tuple(line.split()[:2]) for line in text.splitlines() if line[:1] == " "}
-        for status in [("1", "memory"), ("3", "disk"), ("4", "source"), ("5", "sink"), ("10", "long"), ("11", "notbuilt")]:
+        for status in [("1", "memory"), ("3", "directory"), ("3", "lock"), ("3", "disk"), ("4", "source"), ("5", "sink"), ("10", "long"), ("11", "notbuilt")]:
             self.assertIn(status, statuses)
+        for line in text.splitlines():
+            self.assertLessEqual(len(line), 100)
+            self.assertEqual(line, line.rstrip())
+
+    def test_the_lines_of_a_request(self):
+        text = run("--help").stdout.decode()
+        for lines in (
+            "  PUT k v    then k bytes of key (1 to 65535), v bytes of value (0 to 16777216) and a line feed.\n"
+            "             The reply is OK and the number of the write.\n",
+            "  GET k      then k bytes of key and a line feed. The reply is VALUE and the number of bytes, then\n"
+            "             the bytes and a line feed; or NONE.\n",
+        ):
+            self.assertIn(lines, text)
 
     def test_version(self):
         ended = run("--version")

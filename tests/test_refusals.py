@@ -83,13 +83,13 @@ class Folders(StoreTest):
         for word in ("absent", "absent/below", "a\nb"):
             with self.subTest(word=word):
                 ended = run("pipe", str(self.folder / word), given=put(b"a", b"1"))
-                self.assert_ended(ended, 3, b"", "directory")
+                self.assert_ended(ended, 3, b"", "directory: not found")
         self.assertEqual(list(self.folder.iterdir()), [])
 
     def test_a_file_in_the_place_of_the_folder(self):
         file = self.folder / "file"
         file.write_bytes(b"kept")
-        self.assert_ended(run("pipe", str(file), given=put(b"a", b"1")), 3, b"", "directory")
+        self.assert_ended(run("pipe", str(file), given=put(b"a", b"1")), 3, b"", "directory: not a directory")
         self.assertEqual(self.files(), {"file": b"kept"})
 
     def test_a_second_process(self):

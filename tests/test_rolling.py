@@ -3,9 +3,7 @@
 import random
 import unittest
 
-from support import MOST_IN_FILE, StoreTest, found, get, numbered, put
-
-QUARTER = MOST_IN_FILE // 4 - 23  # of a value: its record under a key of one byte is a quarter of a file
+from support import MOST_IN_FILE, QUARTER, StoreTest, found, get, numbered, put
 
 
 class Rolling(StoreTest):

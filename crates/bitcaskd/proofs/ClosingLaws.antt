@@ -1,7 +1,8 @@
 -- From the end of the talk, over the last sync, to what the whole run did.
-use Rattle.std.proofs.Common.{◌≡◌, ◌∙◌, ℕ, ◌-◌, ◌≤◌, List, [], ◌∷◌, ◌++◌, length, drop, Bool, ◌⊎◌, refl, sym, ap, subst, arith, inl, inr, false, IsTrue}
+use Rattle.std.proofs.Common.{◌≡◌, ◌∙◌, ℕ, ◌-◌, ◌≤◌, List, [], ◌∷◌, ◌++◌, length, drop, Bool, ◌⊎◌, refl, sym, ap, subst, arith, inl, inr, IsTrue}
 use Rattle.std.proofs.lemmas.List.{append-nil}
 use Rattle.std.proofs.lemmas.Bool.{cases_lt}
+use Rattle.bk_base.specs.declared.limits.TheConstants.{DEFAULT_MAX_FILE}
 use Rattle.bk_base.specs.declared.calls.Call.TheVariants.{Sync, Quiet}
 use Rattle.bk_base.specs.declared.calls.Answer.TheVariants.{Numbered, Done as done_answer}
 use Rattle.bk_base.specs.declared.histories.Opening.{Opening}
@@ -9,6 +10,7 @@ use Rattle.bk_base.specs.declared.histories.Step.{Step}
 use Rattle.bk_base.specs.declared.statuses.Status.{Status}
 use Rattle.bk_base.specs.declared.statuses.Status.TheVariants.{Done, Memory, Words, Disk, Source, Sink, Syntax, Settings, Damaged, Full, Long, NotBuilt, Door}
 use Rattle.bk_base.specs.declared.writes.Write.{Write}
+use Rattle.bk_base.specs.Blanks.{blank_opening, blank_settings}
 use Rattle.bk_disk.specs.Causes.{Rose}
 use Rattle.bk_disk.specs.Told.{Image, Told}
 use Rattle.bk_laws.specs.History.{State}
@@ -21,19 +23,14 @@ use Rattle.bitcaskd.specs.Store.{Stands, IsImageOf}
 use Rattle.bitcaskd.specs.Talking.{Scene, outside_of, LeadTo, StandsAfter, LeftAfter, CountedOver, EndsAt, Stopped}
 use Rattle.bitcaskd.specs.Shelf.{filed, files}
 use Rattle.bitcaskd.proofs.StoreLaws.{exact_image}
-use Rattle.bitcaskd.proofs.ServingLaws.{no_snapshot, step_of}
+use Rattle.bitcaskd.proofs.ServingLaws.{step_of}
 use Rattle.bitcaskd.proofs.TalkingLaws.{at_site, leads_on, counts_on}
 
 opening_of : Scene → Opening
-opening_of start = record {
-  log = [];
-  folds = [];
-  snapshot = no_snapshot;
-  settings = record { dead_bytes = 0; max_file = 67108864; ttl = 0; dead_percent = 0 };
+opening_of start = record blank_opening {
+  settings = record blank_settings { max_file = DEFAULT_MAX_FILE };
   faults = start.site.faults;
   views = start.site.views;
-  outs = 0;
-  whole = false;
 }
 
 -- the run, from its talk and the steps that close it

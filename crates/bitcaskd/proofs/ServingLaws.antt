@@ -1,5 +1,5 @@
 -- What serving a request adds to the history.
-use Rattle.std.proofs.Common.{◌≡◌, ℕ, ◌+◌, ◌-◌, ◌*◌, ◌≤◌, List, [], ◌∷◌, ◌++◌, length, Bool, false, Option, Some, None, refl, sym, ap, arith, inl, inr, IsTrue}
+use Rattle.std.proofs.Common.{◌≡◌, ℕ, ◌+◌, ◌-◌, ◌*◌, ◌≤◌, List, [], ◌∷◌, ◌++◌, length, Bool, Option, Some, None, refl, sym, ap, arith, inl, inr, IsTrue}
 use Rattle.std.proofs.lemmas.List.{length-append}
 use Rattle.bk_base.specs.declared.numbers.Moment.{Moment}
 use Rattle.bk_base.specs.declared.numbers.Seq.{Seq}
@@ -7,13 +7,13 @@ use Rattle.bk_base.specs.declared.calls.Call.TheVariants.{Get as get_call, Put a
 use Rattle.bk_base.specs.declared.calls.Answer.{Answer}
 use Rattle.bk_base.specs.declared.calls.Answer.TheVariants.{Nothing, Found, Numbered as numbered_answer, Done}
 use Rattle.bk_base.specs.declared.calls.Entry.{Entry}
-use Rattle.bk_base.specs.declared.histories.Snapshot.{Snapshot}
 use Rattle.bk_base.specs.declared.histories.Step.{Step}
 use Rattle.bk_base.specs.declared.requests.Request.{Request}
 use Rattle.bk_base.specs.declared.requests.Request.TheVariants.{Get, Put}
 use Rattle.bk_base.specs.declared.requests.Reply.{Reply}
 use Rattle.bk_base.specs.declared.requests.Reply.TheVariants.{Numbered}
 use Rattle.bk_base.specs.declared.writes.Write.{Write}
+use Rattle.bk_base.specs.Blanks.{blank_step}
 use Rattle.bk_disk.specs.Streams.{first_moment, later_moments}
 use Rattle.bk_laws.specs.Log.{live}
 use Rattle.bk_laws.specs.Session.{ShowsGet, Serves, call_of, named}
@@ -21,17 +21,14 @@ use Rattle.bk_laws.specs.Wire.{request_text}
 use Rattle.bitcaskd.specs.Counts.{Counted, Counts}
 use Rattle.bitcaskd.specs.Serving.{Site, Leads, Served, Refused}
 use Rattle.bitcaskd.specs.Store.{Holds, IsImageOf, KeepsLog, PutDone, GetDone, put_of}
-use Rattle.bk_files.specs.declared.catalog.Catalog.{Catalog}
+use Rattle.bk_files.specs.Catalog.{Known}
 use Rattle.bitcaskd.specs.Shelf.{FitsWithin}
 use Rattle.bitcaskd.proofs.ShelfLaws.{fits_more}
 use Rattle.bitcaskd.proofs.StoreLaws.{image_of}
 
--- the first path keeps no rows and no merges: its snapshots are empty
-pub no_snapshot : Snapshot
-no_snapshot = record { rows = []; written = []; job = None; last_file = record { 0 = 0 } }
-
+-- the first path keeps no rows and no merges: its snapshots are blank
 abbrev pub step_of : Entry → ℕ → ℕ → Step
-step_of entry faults views = record { entry = entry; faults = faults; views = views; outs = 0; at = None; snapshot = no_snapshot; clean = false }
+step_of entry faults views = record blank_step { entry = entry; faults = faults; views = views }
 
 abbrev pub answer_of : Option (List ℕ) → Answer
 answer_of None = Nothing
@@ -123,7 +120,7 @@ unfolding request_text
 put-small key value = simp length-append (omega arith)
 
 -- so the files after a put are no more than its request allows
-pub put-fits : (key value : List ℕ) (request : Request) (c d : Catalog) → request ≡ Put key value
+pub put-fits : (key value : List ℕ) (request : Request) (c d : Known) → request ≡ Put key value
     → ((most : ℕ) → FitsWithin most c → FitsWithin (most + 2 * (22 + length key + length value)) d)
     → (most : ℕ) → FitsWithin most c → FitsWithin (most + 46 * length (request_text request)) d
 put-fits key value request c d is more most h =

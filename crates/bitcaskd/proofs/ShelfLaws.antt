@@ -14,12 +14,12 @@ use Rattle.bk_disk.proofs.Names.{same_eq, same_refl}
 use Rattle.bk_disk.proofs.Files.{there-changed, bytes_of-changed, bytes_of-changed_other}
 use Rattle.bk_disk.proofs.Tables.{at-with_name, at-with_name_other}
 use Rattle.bk_files.specs.declared.catalog.Active.{Active}
-use Rattle.bk_files.specs.declared.catalog.Catalog.{Catalog}
-use Rattle.bk_files.specs.Catalog.{Begins, Grows, grown_of, due_of, is_due, len_of, main, with_torn}
-use Rattle.bk_files.specs.Files.{Repaired, RepairedOf, HalfRepaired, HalfRepairedOf, Rolled, HalfRolled, Settled, SettledOf, Stands}
+use Rattle.bk_files.specs.Catalog.{Known, Begins, Grows, grown_of, due_of, id_of, len_of, main, mended, new_active, with_torn}
+use Rattle.bk_files.specs.Files.{RepairedOf, HalfRepairedOf, RolledOf, HalfRolledOf, SettledOf, IsConsistentWith, name_of}
+use Rattle.bk_files.proofs.Rows.{apart_above}
 use Rattle.bk_files.proofs.FirstRecords.{records_of-more}
 use Rattle.bk_laws.specs.Record.{record_of, records_of}
-use Rattle.bitcaskd.specs.Shelf.{Shelf, Lies, IsKept, IsClosed, IsOpen, IsOn, IsOnOf, IsLeft, Extends, FitsWithin, active_of, closed, files, files_behind, max_file, next_name, place_for, put_on, synced, with_part}
+use Rattle.bitcaskd.specs.Shelf.{Shelf, Lies, IsKept, IsClosed, IsOpen, IsOn, IsOnOf, IsLeft, Extends, FitsWithin, active_of, closed, files, files_behind, max_file, newest_active, next_name, place_for, put_on, synced, with_part}
 
 -- A table with one file behind the others
 
@@ -36,10 +36,6 @@ at-synced n (e ∷ es) = grind (arith, at-synced n es)
 
 length-behind : {X : Type 0} (t : List X) (x : X) → length (t ++ x ∷ []) ≡ length t + 1
 length-behind t x = length-append t (x ∷ [])
-
-other : (i j : ℕ) → i < j → same (main j) (main i) ≡ false
-unfolding same
-other i j h = grind (arith, h)
 
 -- The newest file after each call on it
 
@@ -131,18 +127,19 @@ free_changed last n f i j is free = λ id high. ap (λ k. is_some (at k (main id
 free_made : (last : ℕ) (t u : Told) → Made (main (last + 1)) false t u → ((id : ℕ) → last < id → IsAbsent (main id) t.image) → (id : ℕ) → last + 1 < id → IsAbsent (main id) u.image
 free_made last t u made free = λ id high.
     ap (λ k. is_some (at k (main id))) made.image
-    ∙ ap (λ (o : Option (List ℕ)). is_some o) (at-with_name_other (main (last + 1)) (main id) [] t.image (other (last + 1) id high))
+    ∙ ap (λ (o : Option (List ℕ)). is_some o) (at-with_name_other (main (last + 1)) (main id) [] t.image (apart_above (main id) (main (last + 1)) high))
     ∙ free id (omega (arith, high))
 
 -- What a shelf says, in either of its forms
 
-record Facts (s : Shelf) (t : Told) (c : Catalog) : Type 0 where
+record Facts (s : Shelf) (t : Told) (c : Known) : Type 0 where
   form : (IsClosed s t c × (s.newest ≡ [])) ⊎ IsOpen s t c
-  active : c.active ≡ active_of s.newest
+  place : ℕ
+  active : c.active ≡ active_of (length s.sealed) place s.newest
   kept : IsKept (length (files s)) t c
   image : t.image ≡ files s
 
-facts : (s : Shelf) (t : Told) (c : Catalog) → IsOn s t c → Facts s t c
+facts : (s : Shelf) (t : Told) (c : Known) → IsOn s t c → Facts s t c
 facts s t c h = go s.newest refl h where
   all : (ws : List Write) → s.newest ≡ ws → files s ≡ files_behind s.sealed ws
   all ws e = ap (λ l. files_behind s.sealed l) e
@@ -150,7 +147,8 @@ facts s t c h = go s.newest refl h where
   go : (ws : List Write) → s.newest ≡ ws → IsOnOf ws s t c → Facts s t c
   go [] e k = record {
     form = inl (k, e);
-    active = k.active ∙ sym (ap active_of e);
+    place = 0;
+    active = k.active ∙ sym (ap (active_of (length s.sealed) 0) e);
     kept = subst (λ (i : Image). IsKept (length i) t c) (sym (all [] e)) k.kept;
     image = k.image ∙ sym (all [] e);
   }
@@ -158,28 +156,29 @@ facts s t c h = go s.newest refl h where
       let whole : files s ≡ s.sealed ++ (next_name s.sealed, records_of (w ∷ ws)) ∷ [] = all (w ∷ ws) e in
       record {
         form = inr k;
+        place = k.place;
         active = k.active
-            ∙ ap (λ (l : List Write). Some (record { len = length (records_of l); torn = false })) e
-            ∙ sym (ap active_of e);
+            ∙ ap (λ (l : List Write). Some (newest_active (length s.sealed) k.place l)) e
+            ∙ sym (ap (active_of (length s.sealed) k.place) e);
         kept = subst (λ (n : ℕ). IsKept n t c) (sym (ap length whole ∙ length-behind s.sealed (next_name s.sealed, records_of (w ∷ ws)))) k.kept;
         image = k.lies.image ∙ ap (λ (l : List Write). s.sealed ++ (next_name s.sealed, records_of l) ∷ []) e ∙ sym whole;
       }
 
 -- an open shelf that has a write
-opened : (ws : List Write) (w : Write) (s : Shelf) (t : Told) (c : Catalog) → IsOpen s t c → IsOnOf (ws ++ w ∷ []) s t c
+opened : (ws : List Write) (w : Write) (s : Shelf) (t : Told) (c : Known) → IsOpen s t c → IsOnOf (ws ++ w ∷ []) s t c
 opened [] w s t c h = h
 opened (x ∷ xs) w s t c h = h
 
-with_kept : (last : ℕ) (t u : Told) (c d : Catalog) → IsKept last t c → Stands d u → d.max_file ≡ c.max_file → d.last ≡ c.last → u.image ≡ t.image → IsKept last u d
+with_kept : (last : ℕ) (t u : Told) (c d : Known) → IsKept last t c → IsConsistentWith d u → d.max_file ≡ c.max_file → d.last ≡ c.last → u.image ≡ t.image → IsKept last u d
 with_kept last t u c d h stands limit number image = record {
   stands = stands;
   limit = limit ∙ h.limit;
-  number = ap (λ n. n.0) number ∙ h.number;
+  number = number ∙ h.number;
   free = λ id high. ap (λ i. is_some (at i (main id))) image ∙ h.free id high;
 }
 
 -- what changes nothing that is told or known leaves the shelf
-pub still_on : (s : Shelf) (t u : Told) (c d : Catalog) → IsOn s t c → Stands d u → d.max_file ≡ c.max_file → d.last ≡ c.last → d.active ≡ c.active
+pub still_on : (s : Shelf) (t u : Told) (c d : Known) → IsOn s t c → IsConsistentWith d u → d.max_file ≡ c.max_file → d.last ≡ c.last → d.active ≡ c.active
     → u.image ≡ t.image → u.fronts ≡ t.fronts → IsOn s u d
 still_on s t u c d h stands limit number active image fronts = go s.newest h where
   go : (ws : List Write) → IsOnOf ws s t c → IsOnOf ws s u d
@@ -191,87 +190,95 @@ still_on s t u c d h stands limit number active image fronts = go s.newest h whe
   }
   go (w ∷ ws) k = record {
     kept = with_kept (length s.sealed + 1) t u c d k.kept stands limit number image;
+    place = k.place;
     active = active ∙ k.active;
     lies = record { image = image ∙ k.lies.image; front = k.lies.front; fronts = fronts ∙ k.lies.fronts; ours = k.lies.ours; apart = k.lies.apart };
   }
 
-pub image_on : (s : Shelf) (t : Told) (c : Catalog) → IsOn s t c → t.image ≡ files s
+pub image_on : (s : Shelf) (t : Told) (c : Known) → IsOn s t c → t.image ≡ files s
 image_on s t c h = (facts s t c h).image
 
-pub stands_on : (s : Shelf) (t : Told) (c : Catalog) → IsOn s t c → Stands c t
+pub stands_on : (s : Shelf) (t : Told) (c : Known) → IsOn s t c → IsConsistentWith c t
 stands_on s t c h = (facts s t c h).kept.stands
 
 -- Repair and sync
 
-is_whole : (ws : List Write) (o : Option Active) → o ≡ active_of ws → with_torn false o ≡ o
-is_whole [] o e = ap (λ a. with_torn false a) e ∙ sym e
-is_whole (w ∷ ws) o e = ap (λ a. with_torn false a) e ∙ sym e
+is_whole : (n place : ℕ) (ws : List Write) (o : Option Active) → o ≡ active_of n place ws → with_torn false o ≡ o
+is_whole n place [] o e = ap (λ a. with_torn false a) e ∙ sym e
+is_whole n place (w ∷ ws) o e = ap (λ a. with_torn false a) e ∙ sym e
 
 -- nothing is torn, so a repair does nothing
-pub repaired_on : (s : Shelf) (t u : Told) (c : Catalog) → IsOn s t c → Repaired c t u → u ≡ t
-repaired_on s t u c h repaired = go s.newest (subst (λ o. RepairedOf c.last.0 o t u) (facts s t c h).active repaired) where
-  go : (ws : List Write) → RepairedOf c.last.0 (active_of ws) t u → u ≡ t
+pub repaired_on : (s : Shelf) (t u : Told) (c : Known) → IsOn s t c → RepairedOf c.active t u → u ≡ t
+repaired_on s t u c h repaired = go s.newest (subst (λ o. RepairedOf o t u) (facts s t c h).active repaired) where
+  go : (ws : List Write) → RepairedOf (active_of (length s.sealed) (facts s t c h).place ws) t u → u ≡ t
   go [] same = same
   go (w ∷ ws) (inl same) = same.1
   go (w ∷ ws) (inr torn) = absurd (true≢false (sym torn.0))
 
-pub untorn_on : (s : Shelf) (t : Told) (c : Catalog) → IsOn s t c → with_torn false c.active ≡ c.active
-untorn_on s t c h = is_whole s.newest c.active (facts s t c h).active
+pub untorn_on : (s : Shelf) (t : Told) (c : Known) → IsOn s t c → with_torn false c.active ≡ c.active
+untorn_on s t c h = let f = facts s t c h in is_whole (length s.sealed) f.place s.newest c.active f.active
 
-pub half_repaired_on : (s : Shelf) (t u : Told) (c : Catalog) → IsOn s t c → HalfRepaired c t u → u.image ≡ t.image
+pub half_repaired_on : (s : Shelf) (t u : Told) (c : Known) → IsOn s t c → HalfRepairedOf c.active t u → u.image ≡ t.image
 half_repaired_on s t u c h half = go (facts s t c h).form where
-  in_open : IsOpen s t c → HalfRepairedOf c.last.0 (Some (record { len = length (records_of s.newest); torn = false })) t u → u.image ≡ t.image
+  in_open : (k : IsOpen s t c) → HalfRepairedOf (Some (newest_active (length s.sealed) k.place s.newest)) t u → u.image ≡ t.image
   in_open k (inl same) = ap (λ (x : Told). x.image) same
-  in_open k (inr cut) = lies_cut s.sealed (next_name s.sealed) (records_of s.newest) t u k.lies
-      (subst (λ (n : ℕ). Cut (main n) (length (records_of s.newest)) t u) k.kept.number cut)
+  in_open k (inr cut) = lies_cut s.sealed (next_name s.sealed) (records_of s.newest) t u k.lies cut
 
   go : ((IsClosed s t c × (s.newest ≡ [])) ⊎ IsOpen s t c) → u.image ≡ t.image
-  go (inl k) = ap (λ (x : Told). x.image) (subst (λ o. HalfRepairedOf c.last.0 o t u) k.0.active half)
-  go (inr k) = in_open k (subst (λ o. HalfRepairedOf c.last.0 o t u) k.active half)
+  go (inl k) = ap (λ (x : Told). x.image) (subst (λ o. HalfRepairedOf o t u) k.0.active half)
+  go (inr k) = in_open k (subst (λ o. HalfRepairedOf o t u) k.active half)
 
 -- after a sync all is synced
-pub settled_on : (s : Shelf) (t u : Told) (c : Catalog) → IsOn s t c → Settled c t u → (u.image ≡ t.image) × (u.fronts ≡ synced u.image)
+pub settled_on : (s : Shelf) (t u : Told) (c : Known) → IsOn s t c → SettledOf c.active t u → (u.image ≡ t.image) × (u.fronts ≡ synced u.image)
 settled_on s t u c h settled = go (facts s t c h).form where
   go : ((IsClosed s t c × (s.newest ≡ [])) ⊎ IsOpen s t c) → (u.image ≡ t.image) × (u.fronts ≡ synced u.image)
   go (inl k) =
-      let same : u ≡ t = subst (λ o. SettledOf c.last.0 o t u) k.0.active settled in (
+      let same : u ≡ t = subst (λ o. SettledOf o t u) k.0.active settled in (
         ap (λ (x : Told). x.image) same,
         ap (λ (x : Told). x.fronts) same ∙ k.0.fronts ∙ ap synced (sym k.0.image) ∙ ap (λ (x : Told). synced x.image) (sym same),
       )
   go (inr k) = lies_synced s.sealed (next_name s.sealed) (records_of s.newest) t u k.lies
-      (subst (λ (n : ℕ). Synced (main n) t u) k.kept.number (subst (λ o. SettledOf c.last.0 o t u) k.active settled))
+      (subst (λ o. SettledOf o t u) k.active settled)
 
 -- Rolling
 
-due_on : (size : ℕ) (s : Shelf) (t : Told) (c : Catalog) → IsOn s t c → is_due size c ≡ due_of size max_file (active_of s.newest)
+due_any : (size n place : ℕ) (ws : List Write) → due_of size max_file (active_of n place ws) ≡ due_of size max_file (active_of 0 0 ws)
+due_any size n place [] = refl
+due_any size n place (w ∷ ws) = refl
+
+abbrev is_due : ℕ → Known → Bool
+is_due size c = due_of size c.max_file c.active
+
+due_on : (size : ℕ) (s : Shelf) (t : Told) (c : Known) → IsOn s t c → is_due size c ≡ due_of size max_file (active_of 0 0 s.newest)
 due_on size s t c h =
     let f = facts s t c h in
     ap (λ (n : ℕ). due_of size n c.active) f.kept.limit ∙ ap (λ o. due_of size max_file o) f.active
+    ∙ due_any size (length s.sealed) f.place s.newest
 
 -- no roll is due: the newest file is open
-pub stays : (size : ℕ) (s : Shelf) (t : Told) (c : Catalog) → IsOn s t c → is_due size c ≡ false → IsOpen (place_for size s) t c
+pub stays : (size : ℕ) (s : Shelf) (t : Told) (c : Known) → IsOn s t c → is_due size c ≡ false → IsOpen (place_for size s) t c
 stays size s t c h not_due =
-    let rest : due_of size max_file (active_of s.newest) ≡ false = sym (due_on size s t c h) ∙ not_due in
+    let rest : due_of size max_file (active_of 0 0 s.newest) ≡ false = sym (due_on size s t c h) ∙ not_due in
     subst (λ (p : Shelf). IsOpen p t c) (sym (ap (λ b. cond b (closed s) s) rest)) (go rest (facts s t c h).form)
   where
-    go : due_of size max_file (active_of s.newest) ≡ false → ((IsClosed s t c × (s.newest ≡ [])) ⊎ IsOpen s t c) → IsOpen s t c
-    go rest (inl k) = absurd (true≢false (sym (ap (λ (ws : List Write). due_of size max_file (active_of ws)) k.1) ∙ rest))
+    go : due_of size max_file (active_of 0 0 s.newest) ≡ false → ((IsClosed s t c × (s.newest ≡ [])) ⊎ IsOpen s t c) → IsOpen s t c
+    go rest (inl k) = absurd (true≢false (sym (ap (λ (ws : List Write). due_of size max_file (active_of 0 0 ws)) k.1) ∙ rest))
     go rest (inr k) = k
 
-absent_next : (s : Shelf) (t m : Told) (c : Catalog) → IsOn s t c → m.image ≡ t.image → IsAbsent (main (c.last.0 + 1)) m.image
+absent_next : (s : Shelf) (t m : Told) (c : Known) → IsOn s t c → m.image ≡ t.image → IsAbsent (main (c.last + 1)) m.image
 absent_next s t m c h same =
     let f = facts s t c h in
-    ap (λ i. is_some (at i (main (c.last.0 + 1)))) same ∙ f.kept.free (c.last.0 + 1) (omega (arith, f.kept.number))
+    ap (λ i. is_some (at i (main (c.last + 1)))) same ∙ f.kept.free (c.last + 1) (omega (arith, f.kept.number))
 
-lies_rolled : (s : Shelf) (t u : Told) (c : Catalog) → IsOn s t c → Rolled c t u → Lies (files s) (next_name (files s)) [] u
+lies_rolled : (s : Shelf) (t u : Told) (c : Known) → IsOn s t c → RolledOf c t u → Lies (files s) (next_name (files s)) [] u
 lies_rolled s t u c h (m, settled, made) =
     let f = facts s t c h in
     let (same, all) = settled_on s t m c h settled in
     subst (λ (n : ℕ). Lies (files s) (main (n + 1)) [] u) f.kept.number
-    (subst (λ (i : Image). Lies i (main (c.last.0 + 1)) [] u) (same ∙ f.image)
-    (lies_made (main (c.last.0 + 1)) m u all (absent_next s t m c h same) made))
+    (subst (λ (i : Image). Lies i (main (c.last + 1)) [] u) (same ∙ f.image)
+    (lies_made (main (c.last + 1)) m u all (absent_next s t m c h same) made))
 
-rolls : (s : Shelf) (t u : Told) (c d : Catalog) → IsOn s t c → Begins c d → Rolled c t u → Stands d u → IsOpen (closed s) u d
+rolls : (s : Shelf) (t u : Told) (c d : Known) → IsOn s t c → Begins c d → RolledOf c t u → IsConsistentWith d u → IsOpen (closed s) u d
 rolls s t u c d h begins rolled stands =
     let f = facts s t c h in
     record {
@@ -281,36 +288,37 @@ rolls s t u c d h begins rolled stands =
         number = begins.last ∙ ap (λ (n : ℕ). n + 1) f.kept.number;
         free = go f rolled;
       };
-      active = begins.active;
+      place = length c.rows;
+      active = begins.active ∙ ap (λ (n : ℕ). Some (new_active (n + 1) (length c.rows))) f.kept.number;
       lies = lies_rolled s t u c h rolled;
     }
   where
-    go : Facts s t c → Rolled c t u → (id : ℕ) → length (files s) + 1 < id → IsAbsent (main id) u.image
+    go : Facts s t c → RolledOf c t u → (id : ℕ) → length (files s) + 1 < id → IsAbsent (main id) u.image
     go f (m, settled, made) =
         let same = (settled_on s t m c h settled).0 in
         free_made (length (files s)) m u (subst (λ (n : ℕ). Made (main (n + 1)) false m u) f.kept.number made)
         (λ id high. ap (λ i. is_some (at i (main id))) same ∙ f.kept.free id high)
 
-pub extends_rolled : (s : Shelf) (t u : Told) (c : Catalog) → IsOn s t c → Rolled c t u → Extends t.image u.image
+pub extends_rolled : (s : Shelf) (t u : Told) (c : Known) → IsOn s t c → RolledOf c t u → Extends t.image u.image
 extends_rolled s t u c h (m, settled, made) =
     let same = (settled_on s t m c h settled).0 in
-    subst (λ (i : Image). Extends i u.image) same (extends_made (main (c.last.0 + 1)) m u (absent_next s t m c h same) made)
+    subst (λ (i : Image). Extends i u.image) same (extends_made (main (c.last + 1)) m u (absent_next s t m c h same) made)
 
 -- the newest file is open for a text of this size, after a roll where that was due
-pub rolled_open : (size : ℕ) (s : Shelf) (t u : Told) (c d : Catalog) → IsOn s t c → is_due size c ≡ true → Begins c d → Rolled c t u → Stands d u → IsOpen (place_for size s) u d
+pub rolled_open : (size : ℕ) (s : Shelf) (t u : Told) (c d : Known) → IsOn s t c → is_due size c ≡ true → Begins c d → RolledOf c t u → IsConsistentWith d u → IsOpen (place_for size s) u d
 rolled_open size s t u c d h due begins rolled stands =
     subst (λ (p : Shelf). IsOpen p u d) (sym (ap (λ b. cond b (closed s) s) (sym (due_on size s t c h) ∙ due))) (rolls s t u c d h begins rolled stands)
 
 -- Appending
 
-lies_open : (p : Shelf) (k : ℕ) (text : List ℕ) (t u : Told) (c : Catalog) → IsOpen p t c → Appended (main c.last.0) k text t u
+lies_open : (p : Shelf) (k : ℕ) (text : List ℕ) (t u : Told) (c : Known) → IsOpen p t c → Appended (name_of c.active) k text t u
     → Lies p.sealed (next_name p.sealed) (records_of p.newest ++ take k text) u
 lies_open p k text t u c h appended =
-    lies_appended p.sealed (next_name p.sealed) (records_of p.newest) k text t u h.lies (subst (λ (n : ℕ). Appended (main n) k text t u) h.kept.number appended)
+    lies_appended p.sealed (next_name p.sealed) (records_of p.newest) k text t u h.lies (subst (λ (n : Name). Appended n k text t u) (ap name_of h.active) appended)
 
 -- the record stands behind those of the newest file
-pub appended_on : (p : Shelf) (w : Write) (size : ℕ) (text : List ℕ) (t u : Told) (c d : Catalog) → IsOpen p t c → Grows size c d → size ≡ length text
-    → Appended (main c.last.0) (length text) text t u → text ≡ record_of w → Stands d u → IsOn (put_on w p) u d
+pub appended_on : (p : Shelf) (w : Write) (size : ℕ) (text : List ℕ) (t u : Told) (c d : Known) → IsOpen p t c → Grows size c d → size ≡ length text
+    → Appended (name_of c.active) (length text) text t u → text ≡ record_of w → IsConsistentWith d u → IsOn (put_on w p) u d
 appended_on p w size text t u c d h grows long appended is stands =
     let lies = lies_open p (length text) text t u c h appended in
     let more : records_of p.newest ++ take (length text) text ≡ records_of (p.newest ++ w ∷ []) =
@@ -321,28 +329,31 @@ appended_on p w size text t u c d h grows long appended is stands =
       kept = record {
         stands = stands;
         limit = grows.max_file ∙ h.kept.limit;
-        number = ap (λ n. n.0) grows.last ∙ h.kept.number;
-        free = free_changed (length p.sealed + 1) (main c.last.0) (λ bytes. bytes ++ take (length text) text) t.image u.image appended.image h.kept.free;
+        number = grows.last ∙ h.kept.number;
+        free = free_changed (length p.sealed + 1) (name_of c.active) (λ bytes. bytes ++ take (length text) text) t.image u.image appended.image h.kept.free;
       };
-      active = grows.active ∙ ap (λ o. grown_of size o) h.active ∙ ap (λ (n : ℕ). Some (record { len = n; torn = false })) len;
+      place = h.place;
+      active = grows.active ∙ ap (λ o. grown_of size o) h.active
+          ∙ ap (λ (n : ℕ). Some (record { id = record { 0 = length p.sealed + 1 }; place = h.place; len = n; torn = false })) len;
       lies = subst (λ (l : List ℕ). Lies p.sealed (next_name p.sealed) l u) more lies;
     })
 
-pub extends_open : (p : Shelf) (k : ℕ) (text : List ℕ) (t u : Told) (c : Catalog) → IsOpen p t c → Appended (main c.last.0) k text t u → Extends t.image u.image
+pub extends_open : (p : Shelf) (k : ℕ) (text : List ℕ) (t u : Told) (c : Known) → IsOpen p t c → Appended (name_of c.active) k text t u → Extends t.image u.image
 extends_open p k text t u c h appended =
-    extends_appended (main c.last.0) k text t u
-    (ap (λ (n : ℕ). is_some (at t.image (main n))) h.kept.number ∙ ap (λ i. is_some (at i (next_name p.sealed))) h.lies.image
+    extends_appended (name_of c.active) k text t u
+    (ap (λ (n : Name). is_some (at t.image n)) (ap name_of h.active) ∙ ap (λ i. is_some (at i (next_name p.sealed))) h.lies.image
     ∙ ap (λ (o : Option (List ℕ)). is_some o) (at-behind (next_name p.sealed) (records_of p.newest) p.sealed h.lies.apart))
     appended
 
 -- the text stands where the append said
-pub written_open : (p : Shelf) (place : ℕ) (text : List ℕ) (t u : Told) (c d : Catalog) → IsOpen p t c → d.last ≡ c.last → place ≡ len_of c.active
-    → Appended (main c.last.0) (length text) text t u → drop place (bytes_of (main d.last.0) u.image) ≡ text
-written_open p place text t u c d h number is appended =
+pub written_open : (p : Shelf) (place size : ℕ) (text : List ℕ) (t u : Told) (c d : Known) → IsOpen p t c → d.active ≡ grown_of size c.active
+    → place ≡ len_of c.active
+    → Appended (name_of c.active) (length text) text t u → drop place (bytes_of (name_of d.active) u.image) ≡ text
+written_open p place size text t u c d h grown is appended =
     let lies = lies_open p (length text) text t u c h appended in
     let here : place ≡ length (records_of p.newest) + 0 = omega (arith, is, ap (λ o. len_of o) h.active) in
-    ap (λ (n : ℕ). drop n (bytes_of (main d.last.0) u.image)) here
-    ∙ ap (λ (n : ℕ). drop (length (records_of p.newest) + 0) (bytes_of (main n) u.image)) (ap (λ n. n.0) number ∙ h.kept.number)
+    ap (λ (n : ℕ). drop n (bytes_of (name_of d.active) u.image)) here
+    ∙ ap (λ (n : Name). drop (length (records_of p.newest) + 0) (bytes_of n u.image)) (ap name_of (grown ∙ ap (λ o. grown_of size o) h.active))
     ∙ ap (λ (l : List ℕ). drop (length (records_of p.newest) + 0) l) (lies_bytes p.sealed (next_name p.sealed) (records_of p.newest ++ take (length text) text) u lies)
     ∙ drop-append-add (records_of p.newest) (take (length text) text) 0
     ∙ take-length text
@@ -363,20 +374,20 @@ left_any s image text (inr (n, inr is)) = inr (0, inr (is ∙ ap (λ (l : List �
 
 -- a first part of a text behind an open newest file
 part_left : (size n : ℕ) (s : Shelf) (text : List ℕ) (image : Image) → image ≡ with_part (take n text) (place_for size s) → IsLeft image s text
-part_left size n s text image is = go (due_of size max_file (active_of s.newest)) is where
+part_left size n s text image is = go (due_of size max_file (active_of 0 0 s.newest)) is where
   go : (b : Bool) → image ≡ with_part (take n text) (cond b (closed s) s) → IsLeft image s text
   go true e = inr (n, inr e)
   go false e = inr (n, inl e)
 
-pub open_left : (size : ℕ) (s : Shelf) (u : Told) (d : Catalog) → IsOpen (place_for size s) u d → IsLeft u.image s []
+pub open_left : (size : ℕ) (s : Shelf) (u : Told) (d : Known) → IsOpen (place_for size s) u d → IsLeft u.image s []
 open_left size s u d h =
     let p = place_for size s in
     part_left size 0 s [] u.image (h.lies.image ∙ ap (λ (l : List ℕ). p.sealed ++ (next_name p.sealed, l) ∷ []) (sym (append-nil (records_of p.newest))))
 
-pub append_left : (size n : ℕ) (s : Shelf) (text : List ℕ) (t u : Told) (c : Catalog) → IsOpen (place_for size s) t c → Appended (main c.last.0) n text t u → IsLeft u.image s text
+pub append_left : (size n : ℕ) (s : Shelf) (text : List ℕ) (t u : Told) (c : Known) → IsOpen (place_for size s) t c → Appended (name_of c.active) n text t u → IsLeft u.image s text
 append_left size n s text t u c h appended = part_left size n s text u.image (lies_open (place_for size s) n text t u c h appended).image
 
-pub half_rolled_left : (s : Shelf) (t u : Told) (c : Catalog) → IsOn s t c → HalfRolled c t u → IsLeft u.image s []
+pub half_rolled_left : (s : Shelf) (t u : Told) (c : Known) → IsOn s t c → HalfRolledOf c t u → IsLeft u.image s []
 half_rolled_left s t u c h (inl same) = inl (ap (λ (x : Told). x.image) same ∙ image_on s t c h)
 half_rolled_left s t u c h (inr (inl settled)) = inl ((settled_on s t u c h settled).0 ∙ image_on s t c h)
 half_rolled_left s t u c h (inr (inr rolled)) = inr (0, inr (lies_rolled s t u c h rolled).image)
@@ -387,11 +398,11 @@ len_torn : (o : Option Active) → (len_of (with_torn false o) ≡ len_of o) × 
 len_torn None = (refl, refl)
 len_torn (Some a) = (refl, refl)
 
-pub fits_more : (most n : ℕ) (c : Catalog) → most ≤ n → FitsWithin most c → FitsWithin n c
+pub fits_more : (most n : ℕ) (c : Known) → most ≤ n → FitsWithin most c → FitsWithin n c
 fits_more most n c more h = record { limit = h.limit; none = h.none; few = omega (arith, more, h.few) }
 
-pub fits_repaired : (most : ℕ) (c d : Catalog) → d ≡ record c { active = with_torn false c.active } → FitsWithin most c → FitsWithin most d
-fits_repaired most c d is h = subst (λ (x : Catalog). FitsWithin most x) (sym is) (record {
+pub fits_repaired : (most : ℕ) (c d : Known) → d ≡ mended c → FitsWithin most c → FitsWithin most d
+fits_repaired most c d is h = subst (λ (x : Known). FitsWithin most x) (sym is) (record {
   limit = h.limit;
   none = λ gone. h.none (sym (len_torn c.active).1 ∙ gone);
   few = omega (arith, (len_torn c.active).0, h.few);
@@ -404,9 +415,9 @@ roll_few size most last (Some a) due none few =
     let long : 67108864 < a.len + size = grind (arith, due) in
     omega (arith, long, few)
 
-pub fits_begun : (size most : ℕ) (c d : Catalog) → is_due size c ≡ true → Begins c d → FitsWithin most c → FitsWithin (most + size) d
+pub fits_begun : (size most : ℕ) (c d : Known) → is_due size c ≡ true → Begins c d → FitsWithin most c → FitsWithin (most + size) d
 fits_begun size most c d due begins h =
-    let few = roll_few size most c.last.0 c.active (ap (λ (n : ℕ). due_of size n c.active) (sym h.limit) ∙ due) h.none h.few in
+    let few = roll_few size most c.last c.active (ap (λ (n : ℕ). due_of size n c.active) (sym h.limit) ∙ due) h.none h.few in
     record {
       limit = begins.max_file ∙ h.limit;
       none = λ gone. absurd (true≢false (ap (λ o. is_some o) (sym begins.active) ∙ gone));
@@ -417,11 +428,11 @@ grown_some : (size : ℕ) (o : Option Active) → (is_some (grown_of size o) ≡
 grown_some size None = (refl, omega arith)
 grown_some size (Some a) = (refl, omega arith)
 
-pub fits_grown : (size most : ℕ) (c d : Catalog) → Grows size c d → FitsWithin most c → FitsWithin (most + size) d
+pub fits_grown : (size most : ℕ) (c d : Known) → Grows size c d → FitsWithin most c → FitsWithin (most + size) d
 fits_grown size most c d grows h = record {
   limit = grows.max_file ∙ h.limit;
-  none = λ gone. ap (λ n. n.0) grows.last ∙ h.none (sym (grown_some size c.active).0 ∙ ap (λ o. is_some o) (sym grows.active) ∙ gone);
-  few = omega (arith, h.few, ap (λ n. n.0) grows.last, ap (λ o. len_of o) grows.active, (grown_some size c.active).1);
+  none = λ gone. grows.last ∙ h.none (sym (grown_some size c.active).0 ∙ ap (λ o. is_some o) (sym grows.active) ∙ gone);
+  few = omega (arith, h.few, grows.last, ap (λ o. len_of o) grows.active, (grown_some size c.active).1);
 }
 
 -- a file that takes a text is there, and is longer by the text
@@ -430,19 +441,19 @@ grown_len size limit more None due = absurd (true≢false due)
 grown_len size limit more (Some a) due = refl
 
 -- the last number is far from given out
-pub few_files : (c : Catalog) → FitsWithin (2 ^ 56) c → c.last.0 < 4294967294
+pub few_files : (c : Known) → FitsWithin (2 ^ 56) c → c.last < 4294967294
 few_files c h = omega (arith, h.few)
 
 -- For the answers
 
-pub repaired_still : (s : Shelf) (t u : Told) (c d : Catalog) → IsOn s t c → Repaired c t u → d ≡ record c { active = with_torn false c.active } → Stands d u → IsOn s u d
+pub repaired_still : (s : Shelf) (t u : Told) (c d : Known) → IsOn s t c → RepairedOf c.active t u → d ≡ mended c → IsConsistentWith d u → IsOn s u d
 repaired_still s t u c d h repaired is stands =
     let same : u ≡ t = repaired_on s t u c h repaired in
     still_on s t u c d h stands (ap (λ x. x.max_file) is) (ap (λ x. x.last) is) (ap (λ x. x.active) is ∙ untorn_on s t c h)
     (ap (λ (x : Told). x.image) same) (ap (λ (x : Told). x.fronts) same)
 
-pub open_still : (p : Shelf) (t u : Told) (c d : Catalog) → IsOpen p t c → u ≡ t → d ≡ c → IsOpen p u d
-open_still p t u c d h told catalog = subst (λ (x : Told). IsOpen p x d) (sym told) (subst (λ (x : Catalog). IsOpen p t x) (sym catalog) h)
+pub open_still : (p : Shelf) (t u : Told) (c d : Known) → IsOpen p t c → u ≡ t → d ≡ c → IsOpen p u d
+open_still p t u c d h told catalog = subst (λ (x : Told). IsOpen p x d) (sym told) (subst (λ (x : Known). IsOpen p t x) (sym catalog) h)
 
 pub extends_told : (t u : Told) → u ≡ t → Extends t.image u.image
 extends_told t u same = extends_same t.image u.image (ap (λ (x : Told). x.image) same)

@@ -1,5 +1,5 @@
 -- What one more record does to the log and the table.
-use Rattle.std.proofs.Common.{◌≡◌, ◌∙◌, ℕ, ◌+◌, ◌-◌, ◌<◌, ◌≤◌, ◌⊎◌, List, [], ◌∷◌, ◌++◌, length, take, drop, Bool, true, false, cond, Option, Some, None, is_some, refl, sym, ap, subst, arith, inl, inr, append_assoc}
+use Rattle.std.proofs.Common.{◌≡◌, ◌∙◌, ℕ, ◌+◌, ◌-◌, ◌<◌, ◌≤◌, ◌⊎◌, List, [], ◌∷◌, ◌++◌, length, take, drop, Bool, true, false, cond, Option, Some, None, is_some, IsTrue, refl, sym, ap, subst, arith, inl, inr, append_assoc}
 use Rattle.std.proofs.lemmas.Bool.{cases_lt}
 use Rattle.std.specs.Int.{w32, to_be_bytes}
 use Rattle.std.specs.Str.{bytes_eq}
@@ -15,10 +15,8 @@ use Rattle.bk_base.specs.declared.writes.Body.TheVariants.{Put}
 use Rattle.bk_disk.specs.Told.{Table, Image, Told, IsWell, at, names, bytes_of}
 use Rattle.bk_disk.specs.Causes.{bumped, most}
 use Rattle.bk_disk.specs.Stops.{IsSynced}
-use Rattle.bk_files.specs.declared.catalog.Catalog.{Catalog}
-use Rattle.bk_files.specs.Catalog.{main}
-use Rattle.bk_files.specs.Files.{HalfRepaired, Repaired, Settled, Synchronized}
-use Rattle.bk_files.specs.Files.{Stands as FilesStand}
+use Rattle.bk_files.specs.Catalog.{Known, id_of, main}
+use Rattle.bk_files.specs.Files.{HalfRepaired, IsConsistentWith, Repaired, RepairedOf, Seen, SettledOf, Synchronized, name_of}
 use Rattle.bk_record.proofs.Codec.{length-record_of}
 use Rattle.bk_laws.specs.Log.{winner, or_else, seq_after}
 use Rattle.bk_laws.proofs.LastWrites.{winner-append}
@@ -100,12 +98,12 @@ placed i j text value at here w o q true more written some body split len ends o
     }
 
 -- The store after a good append of a put's record, with its place in the table.
-pub put-holds : (t u : Told) (c d : Catalog) (x y : Index) (log : List Write) (seq : Seq) (now : Moment) (key value text : List ℕ) (at : ℕ) (here : Seat)
+pub put-holds : (t u : Told) (c d : Known) (x y : Index) (log : List Write) (seq : Seq) (now : Moment) (key value text : List ℕ) (at : ℕ) (here : Seat)
     → Holds t c x log → seq.0 ≡ x.last + 1 → text ≡ record_of (put_of seq now key value)
     → ((s : Shelf) (w : Write) → text ≡ record_of w → IsOn s t c → IsOn (put_on w (place_for (length text) s)) u d)
     → ((s : Shelf) → IsOn s t c → Extends t.image u.image)
-    → ((s : Shelf) → IsOn s t c → drop at (bytes_of (main d.last.0) u.image) ≡ text)
-    → here.file ≡ d.last.0 → here.len ≡ length value → here.at + length value ≡ at + length text
+    → ((s : Shelf) → IsOn s t c → drop at (bytes_of (name_of d.active) u.image) ≡ text)
+    → here.file ≡ id_of d.active → here.len ≡ length value → here.at + length value ≡ at + length text
     → AddsPlace x y key here → y.last ≡ x.last + 1
     → Holds u d y (log ++ put_of seq now key value ∷ [])
 put-holds t u c d x y log seq now key value text at here h number is on more written file len ends places last =
@@ -123,27 +121,27 @@ put-holds t u c d x y log seq now key value text at here h number is on more wri
           (placed t.image u.image text value at here w (look x q) (winner log q) (bytes_eq key q) (more (filed log) h.is_on) stands (omega (arith, size)) refl split len ends (h.each q)));
     }
 
-pub reindexed : (t : Told) (c : Catalog) (x y : Index) (log : List Write) → Holds t c x log → SamePlaces x y → y.last ≡ x.last → Holds t c y log
+pub reindexed : (t : Told) (c : Known) (x y : Index) (log : List Write) → Holds t c x log → SamePlaces x y → y.last ≡ x.last → Holds t c y log
 reindexed t c x y log h places last = record {
   is_on = h.is_on;
   last = last ∙ h.last;
   each = λ key. subst (λ place. PlaceStands t.image place (winner log key)) (sym (places key)) (h.each key);
 }
 
-pub is_on : (t : Told) (c : Catalog) (x : Index) (log : List Write) → Holds t c x log → IsOn (filed log) t c
+pub is_on : (t : Told) (c : Known) (x : Index) (log : List Write) → Holds t c x log → IsOn (filed log) t c
 is_on t c x log h = h.is_on
 
 -- the files of a store are those of its log
-pub exact_image : (t : Told) (c : Catalog) (x : Index) (log : List Write) → Holds t c x log → t.image ≡ files (filed log)
+pub exact_image : (t : Told) (c : Known) (x : Index) (log : List Write) → Holds t c x log → t.image ≡ files (filed log)
 exact_image t c x log h = image_on (filed log) t c h.is_on
 
-pub image_of : (t : Told) (c : Catalog) (x : Index) (log tried : List Write) → Holds t c x log → IsImageOf t.image log tried
+pub image_of : (t : Told) (c : Known) (x : Index) (log tried : List Write) → Holds t c x log → IsImageOf t.image log tried
 image_of t c x log tried h = inl (image_on (filed log) t c h.is_on)
 
 -- what leaves the image, the fronts, the files and the table leaves the store standing
-pub kept : (t u : Told) (c d : Catalog) (x y : Index) (log : List Write) → Holds t c x log → y ≡ x → d ≡ c → FilesStand d u → u.image ≡ t.image → u.fronts ≡ t.fronts → Holds u d y log
+pub kept : (t u : Told) (c d : Known) (x y : Index) (log : List Write) → Holds t c x log → y ≡ x → d ≡ c → IsConsistentWith d u → u.image ≡ t.image → u.fronts ≡ t.fronts → Holds u d y log
 kept t u c d x y log h same known stands image fronts = subst (λ i. Holds u d i log) (sym same) (record {
-  is_on = still_on (filed log) t u c d h.is_on stands (ap (λ (k : Catalog). k.max_file) known) (ap (λ (k : Catalog). k.last) known) (ap (λ (k : Catalog). k.active) known) image fronts;
+  is_on = still_on (filed log) t u c d h.is_on stands (ap (λ (k : Known). k.max_file) known) (ap (λ (k : Known). k.last) known) (ap (λ (k : Known). k.active) known) image fronts;
   last = h.last;
   each = λ key. subst (λ (i : Image). PlaceStands i (look x key) (winner log key)) (sym image) (h.each key);
 })
@@ -163,22 +161,26 @@ filled a k n xs ys left within long few same read =
     ∙ sym (take-add a n left)
 
 -- a good sync leaves nothing unsynced
-pub synced_all : (t u : Told) (c : Catalog) (x : Index) (log : List Write) → Holds t c x log → Synchronized c t u → (u.image ≡ t.image) × IsSynced u
-synced_all t u c x log h (m, repaired, settled) =
-    let same : m ≡ t = repaired_on (filed log) t m c h.is_on repaired in
-    settled_on (filed log) t u c h.is_on (subst (λ (y : Told). Settled c y u) same settled)
+pub synced_all : (b : Bool) (s u : Seen) (x : Index) (log : List Write) → IsTrue b → Holds s.told s.catalog x log → Synchronized b s u
+    → (u.told.image ≡ s.told.image) × IsSynced u.told
+synced_all b s u x log tells h done =
+    let (m, repaired, settled) = done.told tells in
+    let same : m ≡ s.told = repaired_on (filed log) s.told m s.catalog h.is_on repaired in
+    settled_on (filed log) s.told u.told s.catalog h.is_on (subst (λ (y : Told). SettledOf s.catalog.active y u.told) same settled)
 
 -- a refused one leaves the image
-pub synced_none : (t u : Told) (c : Catalog) (x : Index) (log : List Write) → Holds t c x log → HalfRepaired c t u ⊎ Repaired c t u → u.image ≡ t.image
-synced_none t u c x log h (inl half) = half_repaired_on (filed log) t u c h.is_on half
-synced_none t u c x log h (inr repaired) = ap (λ (y : Told). y.image) (repaired_on (filed log) t u c h.is_on repaired)
+pub synced_none : (b : Bool) (s u : Seen) (x : Index) (log : List Write) → IsTrue b → Holds s.told s.catalog x log
+    → HalfRepaired b s u ⊎ Repaired b s u → u.told.image ≡ s.told.image
+synced_none b s u x log tells h (inl half) = half_repaired_on (filed log) s.told u.told s.catalog h.is_on (half.told tells)
+synced_none b s u x log tells h (inr repaired) =
+    ap (λ (y : Told). y.image) (repaired_on (filed log) s.told u.told s.catalog h.is_on (repaired.told tells))
 
 no_names : {X : Type 0} (t : Table X) → names t ≡ [] → t ≡ []
 no_names [] e = refl
 no_names (x ∷ xs) e = absurd (cc e)
 
 -- A disk without files stands for the empty log.
-pub fresh_holds : (t : Told) (c : Catalog) (x : Index) → t.image ≡ [] → IsWell t → FilesStand c t → c.max_file ≡ max_file → c.last.0 ≡ 0 → c.active ≡ None
+pub fresh_holds : (t : Told) (c : Known) (x : Index) → t.image ≡ [] → IsWell t → IsConsistentWith c t → c.max_file ≡ max_file → c.last ≡ 0 → c.active ≡ None
     → ((key : List ℕ) → look x key ≡ None) → x.last ≡ 0 → Holds t c x []
 fresh_holds t c x empty well stands limit number none places last = record {
   is_on = record {

@@ -1,5 +1,6 @@
 -- What one run of `pipe` does, from the bytes of its source to the bytes of its sink.
 use Rattle.std.specs.Prelude.{◌≡◌, ◌≢◌, ◌⊎◌, ℕ, ◌+◌, ◌<◌, ◌≤◌, List, [], ◌∷◌, ◌++◌, Bool, IsTrue, length, drop, sum_by, codes}
+use Rattle.bk_base.specs.declared.limits.TheConstants.{LONGEST_SESSION}
 use Rattle.bk_base.specs.declared.numbers.Moment.{Moment}
 use Rattle.bk_base.specs.declared.histories.Opening.{Opening}
 use Rattle.bk_base.specs.declared.histories.Step.{Step}
@@ -52,9 +53,9 @@ outside told faults views whole taken written sink_faults moments = record {
 abbrev pub telling : Bool → Bool → Bool → Bool → Telling
 telling disk source sink clock = record { disk = disk; source = source; sink = sink; clock = clock }
 
--- the most bytes that are taken: 2^40
+-- the most bytes that are taken
 abbrev pub most_taken : ℕ
-most_taken = 1099511627776
+most_taken = LONGEST_SESSION
 
 -- what was read is the requests, and behind them at most a first part of one more
 abbrev pub ReadsAll : List ℕ → List ℕ → Transcript → Type 0

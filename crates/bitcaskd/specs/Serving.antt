@@ -8,7 +8,7 @@ use Rattle.bk_base.specs.declared.requests.Reply.{Reply}
 use Rattle.bk_base.specs.declared.writes.Write.{Write}
 use Rattle.bk_disk.specs.Streams.{first_moment, later_moments}
 use Rattle.bk_disk.specs.Told.{Told}
-use Rattle.bk_files.specs.declared.catalog.Catalog.{Catalog}
+use Rattle.bk_files.specs.Catalog.{Known}
 use Rattle.bk_laws.specs.History.{State, IsReply, after}
 use Rattle.bk_laws.specs.Session.{Serves, call_of, named}
 use Rattle.bk_laws.specs.Wire.{reply_text}
@@ -19,14 +19,14 @@ use Rattle.bitcaskd.specs.Store.{Holds, IsImageOf}
 -- what the store shows, and the moments that the clock has still to give
 pub record Site : Type 0 where
   pub told : Told
-  pub catalog : Catalog
+  pub catalog : Known
   pub index : Index
   pub faults : ℕ
   pub views : ℕ
   pub moments : List Moment
 
 -- a site from what the objects show
-abbrev pub site_of : Told → Catalog → Index → ℕ → ℕ → List Moment → Site
+abbrev pub site_of : Told → Known → Index → ℕ → ℕ → List Moment → Site
 site_of told catalog index faults views moments = record {
   told = told;
   catalog = catalog;

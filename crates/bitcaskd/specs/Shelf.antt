@@ -1,18 +1,18 @@
 -- How the records of a log lie in data files.
 use Rattle.std.specs.Prelude.{◌≡◌, ◌⊎◌, ℕ, ◌+◌, ◌-◌, ◌*◌, ◌<◌, ◌≤◌, List, [], ◌∷◌, ◌++◌, false, cond, Option, None, Some, is_some, length, take, map}
+use Rattle.bk_base.specs.declared.limits.TheConstants.{DEFAULT_MAX_FILE}
 use Rattle.bk_base.specs.declared.writes.Write.{Write}
 use Rattle.bk_base.specs.declared.names.Name.{Name}
 use Rattle.bk_disk.specs.Told.{Table, Image, Front, Told, bytes_of, IsAbsent}
 use Rattle.bk_disk.specs.Stops.{front_of}
 use Rattle.bk_files.specs.declared.catalog.Active.{Active}
-use Rattle.bk_files.specs.declared.catalog.Catalog.{Catalog}
-use Rattle.bk_files.specs.Catalog.{main, due_of, len_of}
-use Rattle.bk_files.specs.Files.{Stands}
+use Rattle.bk_files.specs.Catalog.{Known, main, due_of, len_of}
+use Rattle.bk_files.specs.Files.{IsConsistentWith}
 use Rattle.bk_laws.specs.Record.{records_of, size_of}
 
 -- past this many bytes a file takes no further record
 abbrev pub max_file : ℕ
-max_file = 67108864
+max_file = DEFAULT_MAX_FILE
 
 -- the closed files, and the writes of the newest one
 pub record Shelf : Type 0 where
@@ -31,10 +31,15 @@ files_behind sealed (w ∷ ws) = sealed ++ (next_name sealed, records_of (w ∷ 
 abbrev pub files : Shelf → Image
 files s = files_behind s.sealed s.newest
 
--- what is known of the newest file, where there is one
-abbrev pub active_of : List Write → Option Active
-active_of [] = None
-active_of (w ∷ ws) = Some (record { len = length (records_of (w ∷ ws)); torn = false })
+-- what is known of the newest file behind so many others, whose row has this place
+abbrev pub newest_active : ℕ → ℕ → List Write → Active
+newest_active others place ws =
+    record { id = record { 0 = others + 1 }; place = place; len = length (records_of ws); torn = false }
+
+-- the same where there is one
+abbrev pub active_of : ℕ → ℕ → List Write → Option Active
+active_of others place [] = None
+active_of others place (w ∷ ws) = Some (newest_active others place (w ∷ ws))
 
 -- the newest file is closed
 abbrev pub closed : Shelf → Shelf
@@ -42,7 +47,7 @@ closed s = record { sealed = files s; newest = [] }
 
 -- the shelf that takes a record of this size next: it rolls where that is due
 abbrev pub place_for : ℕ → Shelf → Shelf
-place_for size s = cond (due_of size max_file (active_of s.newest)) (closed s) s
+place_for size s = cond (due_of size max_file (active_of 0 0 s.newest)) (closed s) s
 
 abbrev pub put_on : Write → Shelf → Shelf
 put_on w s = record { sealed = s.sealed; newest = s.newest ++ w ∷ [] }
@@ -78,35 +83,36 @@ pub record Lies (sealed : Image) (n : Name) (bytes : List ℕ) (t : Told) : Type
   pub apart : IsAbsent n sealed
 
 -- what holds in any case: the limit, and that no later file is there
-pub record IsKept (last : ℕ) (t : Told) (c : Catalog) : Type 0 where
-  pub stands : Stands c t
+pub record IsKept (last : ℕ) (t : Told) (c : Known) : Type 0 where
+  pub stands : IsConsistentWith c t
   pub limit : c.max_file ≡ max_file
-  pub number : c.last.0 ≡ last
+  pub number : c.last ≡ last
   pub free : (id : ℕ) → last < id → IsAbsent (main id) t.image
 
 -- no file is active: all are closed and synced
-pub record IsClosed (s : Shelf) (t : Told) (c : Catalog) : Type 0 where
+pub record IsClosed (s : Shelf) (t : Told) (c : Known) : Type 0 where
   pub kept : IsKept (length s.sealed) t c
   pub active : c.active ≡ None
   pub image : t.image ≡ s.sealed
   pub fronts : t.fronts ≡ synced s.sealed
 
 -- the newest file is active and holds the records of the newest writes
-pub record IsOpen (s : Shelf) (t : Told) (c : Catalog) : Type 0 where
+pub record IsOpen (s : Shelf) (t : Told) (c : Known) : Type 0 where
   pub kept : IsKept (length s.sealed + 1) t c
-  pub active : c.active ≡ Some (record { len = length (records_of s.newest); torn = false })
+  pub place : ℕ
+  pub active : c.active ≡ Some (newest_active (length s.sealed) place s.newest)
   pub lies : Lies s.sealed (next_name s.sealed) (records_of s.newest) t
 
-abbrev pub IsOnOf : List Write → Shelf → Told → Catalog → Type 0
+abbrev pub IsOnOf : List Write → Shelf → Told → Known → Type 0
 IsOnOf [] s t c = IsClosed s t c
 IsOnOf (w ∷ ws) s t c = IsOpen s t c
 
 -- the disk and what is known of its files are those of the shelf
-abbrev pub IsOn : Shelf → Told → Catalog → Type 0
+abbrev pub IsOn : Shelf → Told → Known → Type 0
 IsOn s t c = IsOnOf s.newest s t c
 
 -- whatever shelf the files were, so much is left of it
-abbrev pub LeavesPart : Told → Catalog → Image → List ℕ → Type 0
+abbrev pub LeavesPart : Told → Known → Image → List ℕ → Type 0
 LeavesPart t c image text = (s : Shelf) → IsOn s t c → IsLeft image s text
 
 -- no file lost a byte
@@ -115,7 +121,7 @@ Extends old new = (n : Name) → (more : List ℕ) × (bytes_of n new ≡ bytes_
 
 -- Over any disk: the files began with none, and so many bytes were appended that there are no more
 -- of them than this allows, each two neighbours being longer together than the limit.
-pub record FitsWithin (most : ℕ) (c : Catalog) : Type 0 where
+pub record FitsWithin (most : ℕ) (c : Known) : Type 0 where
   pub limit : c.max_file ≡ max_file
-  pub none : is_some c.active ≡ false → c.last.0 ≡ 0
-  pub few : (c.last.0 - 1) * max_file + len_of c.active ≤ most
+  pub none : is_some c.active ≡ false → c.last ≡ 0
+  pub few : (c.last - 1) * max_file + len_of c.active ≤ most

@@ -7,7 +7,7 @@ use Rattle.bk_base.specs.declared.statuses.Status.{Status}
 use Rattle.bk_base.specs.declared.statuses.Status.TheVariants.{Done, Memory, Disk, Source, Sink, Long, NotBuilt}
 use Rattle.bk_base.specs.declared.writes.Write.{Write}
 use Rattle.bk_disk.specs.Causes.{Rose}
-use Rattle.bk_files.specs.declared.catalog.Catalog.{Catalog}
+use Rattle.bk_files.specs.Catalog.{Known}
 use Rattle.bk_laws.specs.History.{IsLegal, state_of, entries}
 use Rattle.bk_laws.specs.Session.{Exchange, IsExchange, Transcript, IsTranscript, all_exchanges, requests_of, replies_of, steps_of, moments_of}
 use Rattle.bk_laws.specs.Wire.{StandsIn}
@@ -190,7 +190,7 @@ StopsAtBad result tells before faults_before gathered now faults_now =
     ⊎ ((result ≡ Some Sink) × FailsOut tells before gathered now faults_before faults_now × (faults_before ≤ faults_now))
 
 -- the store's numbers are no larger than what was read allows, and there is room for a piece
-pub record IsReady (c : Catalog) (x : Index) (stream : Stream) (piece : List ℕ) : Type 0 where
+pub record IsReady (c : Known) (x : Index) (stream : Stream) (piece : List ℕ) : Type 0 where
   pub files : FitsWithin (46 * stream.offset) c
   pub last : x.last ≤ stream.offset
   pub most : stream.most ≡ most_taken

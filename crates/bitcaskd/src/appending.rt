@@ -3,8 +3,7 @@ ghost use Rattle.std.specs.Prelude.{◌≡◌, ◌+◌, ◌*◌, ◌^◌, ◌<�
 ghost use Rattle.bk_base.specs.declared.writes.Write.{Write};
 ghost use Rattle.bk_disk.specs.Causes.{Rose};
 ghost use Rattle.bk_disk.specs.Told.{bytes_of};
-ghost use Rattle.bk_files.specs.Catalog.{is_due, len_of, main, torn_of};
-ghost use Rattle.bk_files.specs.Files.{Stands};
+ghost use Rattle.bk_files.specs.Files.{IsConsistent, active_len, active_name, is_due, is_torn};
 ghost use Rattle.bk_laws.specs.Record.{IsWritable, record_of};
 ghost use Rattle.bitcaskd.specs.Shelf.{Shelf, IsOn, IsOpen, LeavesPart, Extends, FitsWithin, place_for, put_on};
 
@@ -19,27 +18,27 @@ pub fn append_text<D: Disk>(files: &mut Files<D>, text: &[u8]) -> Result<u64, Re
     requires short { length text.now < 2 ^ 32 }
     requires text { (w : Write) × (IsWritable w × (text.now ≡ record_of w)) }
     requires fits { FitsWithin (2 ^ 56) files.old.catalog }
-    requires stands { IsTrue D.tells → Stands files.old.catalog (D.told files.old.disk) }
+    requires stands { IsTrue D.tells → IsConsistent files.old }
     ensures place { IfOk result
-        (λ at. at + length text.now ≡ len_of files.new.catalog.active) }
+        (λ at. at + length text.now ≡ active_len files.new) }
     ensures fits { OnOk result ((most : ℕ) → FitsWithin most files.old.catalog
         → FitsWithin (most + 2 * length text.now) files.new.catalog) }
     ensures ok { IsTrue D.tells → OnOk result ((s : Shelf) (w : Write)
-        → text.now ≡ record_of w → IsOn s (D.told files.old.disk) files.old.catalog
-        → IsOn (put_on w (place_for (length text.now) s)) (D.told files.new.disk) files.new.catalog) }
+        → text.now ≡ record_of w → IsOn s files.old.told files.old.catalog
+        → IsOn (put_on w (place_for (length text.now) s)) files.new.told files.new.catalog) }
     ensures grows { IsTrue D.tells → OnOk result ((s : Shelf)
-        → IsOn s (D.told files.old.disk) files.old.catalog
-        → Extends (D.told files.old.disk).image (D.told files.new.disk).image) }
+        → IsOn s files.old.told files.old.catalog
+        → Extends files.old.told.image files.new.told.image) }
     ensures written { IsTrue D.tells → IfOk result (λ at. (s : Shelf)
-        → IsOn s (D.told files.old.disk) files.old.catalog
-        → drop at (bytes_of (main files.new.catalog.last.0) (D.told files.new.disk).image)
+        → IsOn s files.old.told files.old.catalog
+        → drop at (bytes_of (active_name files.new) files.new.told.image)
         ≡ text.now) }
-    ensures err { IsTrue D.tells → OnErr result (LeavesPart (D.told files.old.disk)
-        files.old.catalog (D.told files.new.disk).image text.now) }
-    ensures later { D.faults files.old.disk ≤ D.faults files.new.disk }
-    ensures disk { IsErrOf result Refusal.Disk → Rose (D.faults files.old.disk)
-        (D.faults files.new.disk) }
-    ensures views { D.fallible_views files.new.disk ≡ D.fallible_views files.old.disk }
+    ensures err { IsTrue D.tells → OnErr result (LeavesPart files.old.told
+        files.old.catalog files.new.told.image text.now) }
+    ensures later { files.old.faults ≤ files.new.faults }
+    ensures disk { IsErrOf result Refusal.Disk → Rose (files.old.faults)
+        (files.new.faults) }
+    ensures views { files.new.fallible_views ≡ files.old.fallible_views }
 {
     open_newest(files, text.len() as u32)?;
     Ok(files.append(text)?)
@@ -49,26 +48,26 @@ pub fn append_text<D: Disk>(files: &mut Files<D>, text: &[u8]) -> Result<u64, Re
 /// closed where it is due, and has room.
 fn open_newest<D: Disk>(files: &mut Files<D>, size: u32) -> Result<(), Refusal>
     requires fits { FitsWithin (2 ^ 56) files.old.catalog }
-    requires stands { IsTrue D.tells → Stands files.old.catalog (D.told files.old.disk) }
-    ensures stands { IsTrue D.tells → Stands files.new.catalog (D.told files.new.disk) }
-    ensures whole { OnOk result (torn_of files.new.catalog.active ≡ false) }
-    ensures due { OnOk result (is_due size files.new.catalog ≡ false) }
+    requires stands { IsTrue D.tells → IsConsistent files.old }
+    ensures stands { IsTrue D.tells → IsConsistent files.new }
+    ensures whole { OnOk result (is_torn files.new ≡ false) }
+    ensures due { OnOk result (is_due size files.new ≡ false) }
     ensures room { OnOk result
-        (size ≤ D.room files.new.disk (main files.new.catalog.last.0)) }
+        (size ≤ files.new.room) }
     ensures fits { OnOk result ((most : ℕ) → FitsWithin most files.old.catalog
         → FitsWithin (most + size) files.new.catalog) }
     ensures ok { IsTrue D.tells → OnOk result ((s : Shelf)
-        → IsOn s (D.told files.old.disk) files.old.catalog
-        → IsOpen (place_for size s) (D.told files.new.disk) files.new.catalog) }
+        → IsOn s files.old.told files.old.catalog
+        → IsOpen (place_for size s) files.new.told files.new.catalog) }
     ensures grows { IsTrue D.tells → OnOk result ((s : Shelf)
-        → IsOn s (D.told files.old.disk) files.old.catalog
-        → Extends (D.told files.old.disk).image (D.told files.new.disk).image) }
-    ensures err { IsTrue D.tells → OnErr result (LeavesPart (D.told files.old.disk)
-        files.old.catalog (D.told files.new.disk).image []) }
-    ensures later { D.faults files.old.disk ≤ D.faults files.new.disk }
-    ensures disk { IsErrOf result Refusal.Disk → Rose (D.faults files.old.disk)
-        (D.faults files.new.disk) }
-    ensures views { D.fallible_views files.new.disk ≡ D.fallible_views files.old.disk }
+        → IsOn s files.old.told files.old.catalog
+        → Extends files.old.told.image files.new.told.image) }
+    ensures err { IsTrue D.tells → OnErr result (LeavesPart files.old.told
+        files.old.catalog files.new.told.image []) }
+    ensures later { files.old.faults ≤ files.new.faults }
+    ensures disk { IsErrOf result Refusal.Disk → Rose (files.old.faults)
+        (files.new.faults) }
+    ensures views { files.new.fallible_views ≡ files.old.fallible_views }
 {
     files.repair()?;
     roll_if_due(files, size)?;
@@ -80,25 +79,25 @@ fn open_newest<D: Disk>(files: &mut Files<D>, size: u32) -> Result<(), Refusal>
 /// the last number to be given out.
 fn roll_if_due<D: Disk>(files: &mut Files<D>, size: u32) -> Result<(), Refusal>
     requires fits { FitsWithin (2 ^ 56) files.old.catalog }
-    requires stands { IsTrue D.tells → Stands files.old.catalog (D.told files.old.disk) }
-    requires whole { torn_of files.old.catalog.active ≡ false }
-    ensures stands { IsTrue D.tells → Stands files.new.catalog (D.told files.new.disk) }
-    ensures whole { OnOk result (torn_of files.new.catalog.active ≡ false) }
-    ensures due { OnOk result (is_due size files.new.catalog ≡ false) }
+    requires stands { IsTrue D.tells → IsConsistent files.old }
+    requires whole { is_torn files.old ≡ false }
+    ensures stands { IsTrue D.tells → IsConsistent files.new }
+    ensures whole { OnOk result (is_torn files.new ≡ false) }
+    ensures due { OnOk result (is_due size files.new ≡ false) }
     ensures fits { OnOk result ((most : ℕ) → FitsWithin most files.old.catalog
         → FitsWithin (most + size) files.new.catalog) }
     ensures ok { IsTrue D.tells → OnOk result ((s : Shelf)
-        → IsOn s (D.told files.old.disk) files.old.catalog
-        → IsOpen (place_for size s) (D.told files.new.disk) files.new.catalog) }
+        → IsOn s files.old.told files.old.catalog
+        → IsOpen (place_for size s) files.new.told files.new.catalog) }
     ensures grows { IsTrue D.tells → OnOk result ((s : Shelf)
-        → IsOn s (D.told files.old.disk) files.old.catalog
-        → Extends (D.told files.old.disk).image (D.told files.new.disk).image) }
-    ensures err { IsTrue D.tells → OnErr result (LeavesPart (D.told files.old.disk)
-        files.old.catalog (D.told files.new.disk).image []) }
-    ensures later { D.faults files.old.disk ≤ D.faults files.new.disk }
-    ensures disk { IsErrOf result Refusal.Disk → Rose (D.faults files.old.disk)
-        (D.faults files.new.disk) }
-    ensures views { D.fallible_views files.new.disk ≡ D.fallible_views files.old.disk }
+        → IsOn s files.old.told files.old.catalog
+        → Extends files.old.told.image files.new.told.image) }
+    ensures err { IsTrue D.tells → OnErr result (LeavesPart files.old.told
+        files.old.catalog files.new.told.image []) }
+    ensures later { files.old.faults ≤ files.new.faults }
+    ensures disk { IsErrOf result Refusal.Disk → Rose (files.old.faults)
+        (files.new.faults) }
+    ensures views { files.new.fallible_views ≡ files.old.fallible_views }
 {
     if !files.due(size) {
         return Ok(());

@@ -10,14 +10,14 @@ use bk_disk::Disk;
 /// Syncs the data file after the input was read to its end, or as far as requests stand in it. A
 /// sync that fails changes the status of the first alone.
 pub fn close<D: Disk>(store: &mut Store<D>, status: Status) -> Status
-    requires { IsSyncedAt status → IsTrue D.tells → Stands (D.told store.old.files.disk)
+    requires { IsSyncedAt status → IsTrue D.tells → Stands store.old.files.told
         store.old.files.catalog store.old.index }
-    ensures image { IsTrue D.tells → (D.told store.new.files.disk).image ≡
-        (D.told store.old.files.disk).image }
-    ensures closes { ClosesBy D.tells status result (D.told store.new.files.disk)
-        (D.faults store.old.files.disk) (D.faults store.new.files.disk) }
-    ensures views { D.fallible_views store.new.files.disk ≡ D.fallible_views store.old.files.disk }
-    ensures later { D.faults store.old.files.disk ≤ D.faults store.new.files.disk }
+    ensures image { IsTrue D.tells → store.new.files.told.image ≡
+        store.old.files.told.image }
+    ensures closes { ClosesBy D.tells status result store.new.files.told
+        store.old.files.faults store.new.files.faults }
+    ensures views { store.new.files.fallible_views ≡ store.old.files.fallible_views }
+    ensures later { store.old.files.faults ≤ store.new.files.faults }
 {
     match status {
         Status::Done => match store.sync() {

@@ -3,11 +3,9 @@ ghost use Rattle.std.specs.Prelude.{◌≡◌, ◌≤◌, ◌<◌, length, IsTru
 ghost use Rattle.bk_wire.specs.Stream.{taken};
 ghost use Rattle.bitcaskd.specs.Talking.{Gives};
 
+use bk_base::limits::LONGEST_SESSION;
 use bk_disk::Source;
 use bk_wire::Reader;
-
-/// The most bytes that a run takes: 2^40.
-pub const MOST: u64 = 1_099_511_627_776;
 
 /// What asking for the next piece gave.
 #[derive(Clone, Copy, Debug, PartialEq, Eq)]
@@ -22,8 +20,8 @@ pub enum Input {
 
 /// Reads the next piece of the source and hands it to the reader.
 pub fn next_piece<S: Source>(reader: &mut Reader, source: &mut S, piece: &mut [u8]) -> Input
-    requires most { reader.old.most ≡ MOST }
-    requires within { taken reader.old ≤ MOST }
+    requires most { reader.old.most ≡ LONGEST_SESSION }
+    requires within { taken reader.old ≤ LONGEST_SESSION }
     requires some { 0 < length piece.old }
     ensures gives { Gives result S.tells
         (record {
@@ -39,8 +37,8 @@ pub fn next_piece<S: Source>(reader: &mut Reader, source: &mut S, piece: &mut [u
           stream = reader.new;
         }) }
     ensures faults { S.faults source.old ≤ S.faults source.new }
-    ensures within { taken reader.new ≤ MOST }
-    ensures most { reader.new.most ≡ MOST }
+    ensures within { taken reader.new ≤ LONGEST_SESSION }
+    ensures most { reader.new.most ≡ LONGEST_SESSION }
     ensures whole { IsTrue S.tells → S.whole source.new ≡ S.whole source.old }
 {
     let room = reader.room();

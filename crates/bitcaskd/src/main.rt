@@ -91,7 +91,7 @@ fn ended(rt: HostRuntime, status: Status) -> ExitCode {
 fn refused_folder(rt: HostRuntime, refused: OsRefused) -> ExitCode {
     let _ = eprintln!(rt; "bitcaskd: {refused}");
     let status = match refused {
-        OsRefused::Directory | OsRefused::Lock => Status::Disk,
+        OsRefused::Directory(_) | OsRefused::Lock => Status::Disk,
         OsRefused::Memory => Status::Memory,
     };
     ExitCode::from(status.code())

@@ -5,6 +5,10 @@ ghost use Rattle.bitcaskd.specs.Output.{Wrote, LeftOver};
 
 use bk_disk::{Failed, Sink};
 
+/// The most room that is kept for the next replies. Where a large value took more, all of it is given
+/// back: a part that stayed would keep the allocator from returning what was freed beside it.
+const KEPT: usize = 262_144;
+
 /// Writes all replies that were gathered. After `Failed` the sink took a first part of them.
 pub fn flush<K: Sink>(sink: &mut K, replies: &mut Vec<u8>) -> Result<(), Failed>
     ensures wrote { IsTrue K.tells → OnOk result
@@ -17,6 +21,9 @@ pub fn flush<K: Sink>(sink: &mut K, replies: &mut Vec<u8>) -> Result<(), Failed>
 {
     write_all(sink, replies.as_slice())?;
     replies.clear();
+    if replies.capacity() > KEPT {
+        replies.shrink_to_fit();
+    }
     Ok(())
 }
 

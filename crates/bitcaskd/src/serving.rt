@@ -20,7 +20,7 @@ fn serve<D: Disk, C: Clock>(
     clock: &mut C,
     request: Request,
 ) -> Result<Reply, Refusal>
-    requires stands { IsTrue D.tells → Stands (D.told store.old.files.disk)
+    requires stands { IsTrue D.tells → Stands store.old.files.told
         store.old.files.catalog store.old.index }
     requires fits { Fits request }
     requires files { FitsWithin (2 ^ 56) store.old.files.catalog }
@@ -29,20 +29,20 @@ fn serve<D: Disk, C: Clock>(
         → FitsWithin (most + 46 * length (request_text request)) store.new.files.catalog) }
     ensures last { OnOk result (store.new.index.last ≤ store.old.index.last + length
         (request_text request)) }
-    ensures ok { let old = site_of (D.told store.old.files.disk) store.old.files.catalog store.old.index
-        (D.faults store.old.files.disk) (D.fallible_views store.old.files.disk) (C.moments clock.old) in
-        let new = site_of (D.told store.new.files.disk) store.new.files.catalog store.new.index
-        (D.faults store.new.files.disk) (D.fallible_views store.new.files.disk) (C.moments clock.new) in
+    ensures ok { let old = site_of store.old.files.told store.old.files.catalog store.old.index
+        store.old.files.faults store.old.files.fallible_views (C.moments clock.old) in
+        let new = site_of store.new.files.told store.new.files.catalog store.new.index
+        store.new.files.faults store.new.files.fallible_views (C.moments clock.new) in
         IfOk result (λ reply. Served D.tells C.tells request reply old new) }
-    ensures err { let old = site_of (D.told store.old.files.disk) store.old.files.catalog store.old.index
-        (D.faults store.old.files.disk) (D.fallible_views store.old.files.disk) (C.moments clock.old) in
-        let new = site_of (D.told store.new.files.disk) store.new.files.catalog store.new.index
-        (D.faults store.new.files.disk) (D.fallible_views store.new.files.disk) (C.moments clock.new) in
+    ensures err { let old = site_of store.old.files.told store.old.files.catalog store.old.index
+        store.old.files.faults store.old.files.fallible_views (C.moments clock.old) in
+        let new = site_of store.new.files.told store.new.files.catalog store.new.index
+        store.new.files.faults store.new.files.fallible_views (C.moments clock.new) in
         OnErr result (Refused D.tells C.tells request old new) }
-    ensures later { D.faults store.old.files.disk ≤ D.faults store.new.files.disk }
-    ensures disk { IsErrOf result Refusal.Disk → Rose (D.faults store.old.files.disk)
-        (D.faults store.new.files.disk) ⊎ Rose (D.fallible_views store.old.files.disk)
-        (D.fallible_views store.new.files.disk) }
+    ensures later { store.old.files.faults ≤ store.new.files.faults }
+    ensures disk { IsErrOf result Refusal.Disk → Rose store.old.files.faults
+        store.new.files.faults ⊎ Rose store.old.files.fallible_views
+        store.new.files.fallible_views }
 {
     let now = clock.now();
     match request {
@@ -66,7 +66,7 @@ pub fn answer<D: Disk, C: Clock>(
     replies: &mut Vec<u8>,
     request: Request,
 ) -> Result<(), Refusal>
-    requires stands { IsTrue D.tells → Stands (D.told store.old.files.disk)
+    requires stands { IsTrue D.tells → Stands store.old.files.told
         store.old.files.catalog store.old.index }
     requires fits { Fits request }
     requires files { FitsWithin (2 ^ 56) store.old.files.catalog }
@@ -75,22 +75,22 @@ pub fn answer<D: Disk, C: Clock>(
         → FitsWithin (most + 46 * length (request_text request)) store.new.files.catalog) }
     ensures last { OnOk result (store.new.index.last ≤ store.old.index.last + length
         (request_text request)) }
-    ensures ok { let old = site_of (D.told store.old.files.disk) store.old.files.catalog store.old.index
-        (D.faults store.old.files.disk) (D.fallible_views store.old.files.disk) (C.moments clock.old) in
-        let new = site_of (D.told store.new.files.disk) store.new.files.catalog store.new.index
-        (D.faults store.new.files.disk) (D.fallible_views store.new.files.disk) (C.moments clock.new) in
+    ensures ok { let old = site_of store.old.files.told store.old.files.catalog store.old.index
+        store.old.files.faults store.old.files.fallible_views (C.moments clock.old) in
+        let new = site_of store.new.files.told store.new.files.catalog store.new.index
+        store.new.files.faults store.new.files.fallible_views (C.moments clock.new) in
         OnOk result
         (Answered D.tells C.tells request old new replies.old.items replies.new.items) }
-    ensures err { let old = site_of (D.told store.old.files.disk) store.old.files.catalog store.old.index
-        (D.faults store.old.files.disk) (D.fallible_views store.old.files.disk) (C.moments clock.old) in
-        let new = site_of (D.told store.new.files.disk) store.new.files.catalog store.new.index
-        (D.faults store.new.files.disk) (D.fallible_views store.new.files.disk) (C.moments clock.new) in
+    ensures err { let old = site_of store.old.files.told store.old.files.catalog store.old.index
+        store.old.files.faults store.old.files.fallible_views (C.moments clock.old) in
+        let new = site_of store.new.files.told store.new.files.catalog store.new.index
+        store.new.files.faults store.new.files.fallible_views (C.moments clock.new) in
         OnErr result (Refused D.tells C.tells request old new) }
     ensures kept { OnErr result (replies.new.items ≡ replies.old.items) }
-    ensures later { D.faults store.old.files.disk ≤ D.faults store.new.files.disk }
-    ensures disk { IsErrOf result Refusal.Disk → Rose (D.faults store.old.files.disk)
-        (D.faults store.new.files.disk) ⊎ Rose (D.fallible_views store.old.files.disk)
-        (D.fallible_views store.new.files.disk) }
+    ensures later { store.old.files.faults ≤ store.new.files.faults }
+    ensures disk { IsErrOf result Refusal.Disk → Rose store.old.files.faults
+        store.new.files.faults ⊎ Rose store.old.files.fallible_views
+        store.new.files.fallible_views }
 {
     let reply = match serve(alloc, store, clock, request) {
         Ok(reply) => reply,

@@ -2,6 +2,7 @@
 ghost use Rattle.std.specs.Prelude.{◌≡◌, ◌+◌, ◌*◌, ◌^◌, ◌<◌, ◌≤◌, ◌⊎◌, ◌∷◌, ◌++◌, ℕ, [], None, length, take, true, false, IsTrue, OnOk, IfOk, OnErr, IfErr, IsErrOf};
 ghost use Rattle.bk_disk.specs.Causes.{IsCaused, Rose};
 ghost use Rattle.bk_disk.specs.Stops.{IsSynced};
+ghost use Rattle.bk_files.specs.Catalog.{id_of};
 ghost use Rattle.bitcaskd.specs.Counts.{Counts};
 ghost use Rattle.bitcaskd.specs.Index.{look};
 ghost use Rattle.bitcaskd.specs.Shelf.{FitsWithin};
@@ -11,14 +12,12 @@ use crate::appending::append_text;
 use crate::index::Index;
 use crate::places::Place;
 use crate::refusals::Refusal;
+use bk_base::limits::DEFAULT_MAX_FILE;
 use bk_base::{Body, FileId, Key, Memory, Moment, Seq, Value, Write};
 use bk_disk::{Disk, DiskError, Failed, View};
 use bk_files::Files;
 use bk_record::encode;
 use std::alloc::Global;
-
-/// Past this many bytes a data file takes no further record.
-const MAX_FILE: u32 = 67_108_864;
 
 /// A store over the data files of a disk.
 pub struct Store<D: Disk> {
@@ -30,14 +29,16 @@ impl<D: Disk> Store<D> {
     /// The store over a disk without files.
     pub fn new(alloc: Global, disk: D) -> Store<D>
         requires { IsTrue D.tells → (D.told disk).image ≡ [] }
-        ensures disk { result.files.disk ≡ disk }
+        ensures told { result.files.told ≡ D.told disk }
+        ensures faults { result.files.faults ≡ D.faults disk }
+        ensures views { result.files.fallible_views ≡ D.fallible_views disk }
         ensures fits { FitsWithin 0 result.files.catalog }
         ensures last { result.index.last ≡ 0 }
-        ensures holds { IsTrue D.tells → Holds (D.told result.files.disk) result.files.catalog
+        ensures holds { IsTrue D.tells → Holds result.files.told result.files.catalog
             result.index [] }
     {
         Store {
-            files: Files::new(disk, Vec::new(alloc), FileId(0), MAX_FILE),
+            files: Files::new(disk, Vec::new(alloc), FileId(0), DEFAULT_MAX_FILE),
             index: Index::new(alloc),
         }
     }
@@ -52,7 +53,7 @@ impl<D: Disk> Store<D> {
         value: Value,
         now: Moment,
     ) -> Result<Seq, Refusal>
-        requires stands { IsTrue D.tells → Stands (D.told self.old.files.disk)
+        requires stands { IsTrue D.tells → Stands self.old.files.told
             self.old.files.catalog self.old.index }
         requires fits { FitsWithin (2 ^ 56) self.old.files.catalog }
         requires seq { self.old.index.last + 1 < 2 ^ 63 }
@@ -61,16 +62,16 @@ impl<D: Disk> Store<D> {
         ensures fits { OnOk result ((most : ℕ) → FitsWithin most self.old.files.catalog
             → FitsWithin (most + 2 * (22 + length key + length value)) self.new.files.catalog) }
         ensures ok { IsTrue D.tells → IfOk result
-            (λ seq. PutDone (D.told self.old.files.disk) self.old.files.catalog self.old.index
-            (D.told self.new.files.disk) self.new.files.catalog self.new.index
+            (λ seq. PutDone self.old.files.told self.old.files.catalog self.old.index
+            self.new.files.told self.new.files.catalog self.new.index
             (put_of seq now key value)) }
         ensures err { IsTrue D.tells → OnErr result
-            (PutRefused (D.told self.old.files.disk) self.old.files.catalog self.old.index
-            (D.told self.new.files.disk) (put_of (next_of self.old.index) now key value)) }
-        ensures later { D.faults self.old.files.disk ≤ D.faults self.new.files.disk }
-        ensures disk { IsErrOf result Refusal.Disk → Rose (D.faults self.old.files.disk)
-            (D.faults self.new.files.disk) }
-        ensures views { D.fallible_views self.new.files.disk ≡ D.fallible_views self.old.files.disk }
+            (PutRefused self.old.files.told self.old.files.catalog self.old.index
+            self.new.files.told (put_of (next_of self.old.index) now key value)) }
+        ensures later { self.old.files.faults ≤ self.new.files.faults }
+        ensures disk { IsErrOf result Refusal.Disk → Rose (self.old.files.faults)
+            (self.new.files.faults) }
+        ensures views { self.new.files.fallible_views ≡ self.old.files.fallible_views }
     {
         let seq = Seq(self.index.last + 1);
         let len = value_len(&value);
@@ -87,7 +88,7 @@ impl<D: Disk> Store<D> {
         let end = at + text.len() as u64;
         let place = Place {
             at: end - u64::from(len),
-            file: self.files.catalog.last,
+            file: active_file(&self.files),
             len,
         };
         self.index.add(write.key, place);
@@ -96,24 +97,24 @@ impl<D: Disk> Store<D> {
 
     /// The newest value of a key, or None where it has none: one look-up and one view of the value.
     pub fn get(&mut self, alloc: Global, key: &Key) -> Result<Option<Value>, Refusal>
-        requires { IsTrue D.tells → Stands (D.told self.old.files.disk) self.old.files.catalog
+        requires { IsTrue D.tells → Stands self.old.files.told self.old.files.catalog
             self.old.index }
         ensures index { self.new.index ≡ self.old.index }
         ensures catalog { self.new.files.catalog ≡ self.old.files.catalog }
         ensures found { IsTrue D.tells → IfOk result
-            (λ found. GetDone (D.told self.old.files.disk) self.old.files.catalog self.old.index
+            (λ found. GetDone self.old.files.told self.old.files.catalog self.old.index
             key.now found) }
-        ensures image { IsTrue D.tells → (D.told self.new.files.disk).image ≡
-            (D.told self.old.files.disk).image }
-        ensures keeps { IsTrue D.tells → KeepsLog (D.told self.old.files.disk)
-            self.old.files.catalog self.old.index (D.told self.new.files.disk)
+        ensures image { IsTrue D.tells → self.new.files.told.image ≡
+            self.old.files.told.image }
+        ensures keeps { IsTrue D.tells → KeepsLog self.old.files.told
+            self.old.files.catalog self.old.index self.new.files.told
             self.new.files.catalog self.new.index }
-        ensures faults { D.faults self.old.files.disk ≤ D.faults self.new.files.disk }
-        ensures views { Counts (D.fallible_views self.old.files.disk)
-            (D.fallible_views self.new.files.disk) }
-        ensures disk { IsErrOf result Refusal.Disk → Rose (D.faults self.old.files.disk)
-            (D.faults self.new.files.disk) ⊎ Rose (D.fallible_views self.old.files.disk)
-            (D.fallible_views self.new.files.disk) }
+        ensures faults { self.old.files.faults ≤ self.new.files.faults }
+        ensures views { Counts (self.old.files.fallible_views)
+            (self.new.files.fallible_views) }
+        ensures disk { IsErrOf result Refusal.Disk → Rose (self.old.files.faults)
+            (self.new.files.faults) ⊎ Rose (self.old.files.fallible_views)
+            (self.new.files.fallible_views) }
     {
         let Some(place) = self.index.place(key) else {
             return Ok(None);
@@ -124,16 +125,16 @@ impl<D: Disk> Store<D> {
 
     /// Syncs the newest data file, where there is one, and says how far the log goes.
     pub fn sync(&mut self) -> Result<Seq, Failed>
-        requires { IsTrue D.tells → Stands (D.told self.old.files.disk) self.old.files.catalog
+        requires { IsTrue D.tells → Stands self.old.files.told self.old.files.catalog
             self.old.index }
         ensures seq { IfOk result (λ seq. seq.0 ≡ self.old.index.last) }
         ensures index { self.new.index ≡ self.old.index }
-        ensures image { IsTrue D.tells → (D.told self.new.files.disk).image ≡
-            (D.told self.old.files.disk).image }
-        ensures synced { IsTrue D.tells → OnOk result (IsSynced (D.told self.new.files.disk)) }
-        ensures cause { IsCaused (D.faults self.old.files.disk) (D.faults self.new.files.disk)
+        ensures image { IsTrue D.tells → self.new.files.told.image ≡
+            self.old.files.told.image }
+        ensures synced { IsTrue D.tells → OnOk result (IsSynced self.new.files.told) }
+        ensures cause { IsCaused (self.old.files.faults) (self.new.files.faults)
             result }
-        ensures views { D.fallible_views self.new.files.disk ≡ D.fallible_views self.old.files.disk }
+        ensures views { self.new.files.fallible_views ≡ self.old.files.fallible_views }
     {
         self.files.sync()?;
         Ok(Seq(self.index.last))
@@ -141,10 +142,22 @@ impl<D: Disk> Store<D> {
 
     /// The store's disk.
     pub fn into_disk(self) -> D
-        ensures { result ≡ self.files.disk }
+        ensures told { D.told result ≡ self.files.told }
+        ensures faults { D.faults result ≡ self.files.faults }
+        ensures views { D.fallible_views result ≡ self.files.fallible_views }
     {
         let Store { files, index: _ } = self;
         files.into_disk()
+    }
+}
+
+/// The file that is appended to, and number 0 where there is none.
+fn active_file<D: Disk>(files: &Files<D>) -> FileId
+    ensures { result.0 ≡ id_of files.now.catalog.active }
+{
+    match files.active() {
+        Some(file) => file,
+        None => FileId(0),
     }
 }
 

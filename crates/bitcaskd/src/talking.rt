@@ -9,11 +9,12 @@ ghost use Rattle.bitcaskd.specs.Store.{Holds, Stands};
 ghost use Rattle.bitcaskd.specs.Serving.{Site, site_of};
 ghost use Rattle.bitcaskd.specs.Talking.{Asks, Flushed, WritesSome, StopsAtBad, Turns, IsReady, Stopped, after_input, status_of, scene_of, work_left};
 
-use crate::input::{Input, MOST, next_piece};
+use crate::input::{Input, next_piece};
 use crate::output::flush;
 use crate::refusals::Refusal;
 use crate::serving::answer;
 use crate::store::Store;
+use bk_base::limits::LONGEST_SESSION;
 use bk_base::{Memory, Request, Status};
 use bk_disk::{Clock, Disk, Sink, Source};
 use bk_wire::{Next, Reader};
@@ -51,30 +52,30 @@ fn ask<D: Disk, K: Sink, C: Clock>(
     sink: &mut K,
     request: Request,
 ) -> Option<Status>
-    requires stands { IsTrue D.tells → Stands (D.told store.old.files.disk)
+    requires stands { IsTrue D.tells → Stands store.old.files.told
         store.old.files.catalog store.old.index }
     requires fits { Fits request }
-    requires files { FitsWithin (46 * MOST) store.old.files.catalog }
-    requires last { store.old.index.last + length (request_text request) ≤ MOST }
+    requires files { FitsWithin (46 * LONGEST_SESSION) store.old.files.catalog }
+    requires last { store.old.index.last + length (request_text request) ≤ LONGEST_SESSION }
     ensures files { result ≡ None → (most : ℕ) → FitsWithin most store.old.files.catalog
         → FitsWithin (most + 46 * length (request_text request)) store.new.files.catalog }
     ensures last { result ≡ None → store.new.index.last ≤ store.old.index.last + length
         (request_text request) }
     ensures stands { result ≡ None → IsTrue D.tells → Stands
-        (D.told store.new.files.disk) store.new.files.catalog store.new.index }
+        store.new.files.told store.new.files.catalog store.new.index }
     ensures turns { Asks result D.tells K.tells C.tells request
-        (site_of (D.told store.old.files.disk) store.old.files.catalog store.old.index
-        (D.faults store.old.files.disk) (D.fallible_views store.old.files.disk) (C.moments clock.old))
+        (site_of store.old.files.told store.old.files.catalog store.old.index
+        store.old.files.faults store.old.files.fallible_views (C.moments clock.old))
         (K.written sink.old) (K.faults sink.old) replies.old.items
-        (site_of (D.told store.new.files.disk) store.new.files.catalog store.new.index
-        (D.faults store.new.files.disk) (D.fallible_views store.new.files.disk) (C.moments clock.new))
+        (site_of store.new.files.told store.new.files.catalog store.new.index
+        store.new.files.faults store.new.files.fallible_views (C.moments clock.new))
         (K.written sink.new) (K.faults sink.new) replies.new.items }
-    ensures disk { result ≡ Some Status.Disk → Rose (D.faults store.old.files.disk)
-        (D.faults store.new.files.disk) ⊎ Rose (D.fallible_views store.old.files.disk)
-        (D.fallible_views store.new.files.disk) }
+    ensures disk { result ≡ Some Status.Disk → Rose store.old.files.faults
+        store.new.files.faults ⊎ Rose store.old.files.fallible_views
+        store.new.files.fallible_views }
     ensures sink { result ≡ Some Status.Sink → Rose (K.faults sink.old) (K.faults sink.new) }
     ensures not_source { result ≢ Some Status.Source }
-    ensures faults { D.faults store.old.files.disk ≤ D.faults store.new.files.disk }
+    ensures faults { store.old.files.faults ≤ store.new.files.faults }
     ensures wrote { K.faults sink.old ≤ K.faults sink.new }
     ensures built { IfSome result IsBuilt }
 {
@@ -116,14 +117,14 @@ fn write_if_many<K: Sink>(sink: &mut K, replies: &mut Vec<u8>) -> Option<Status>
 /// Writes what was gathered and reads on. `None` where the run goes on with more bytes.
 fn read_on<S: Source, K: Sink>(desk: &mut Desk, source: &mut S, sink: &mut K) -> Option<Status>
     requires partial { IsPartial desk.old.reader.rest }
-    requires most { desk.old.reader.most ≡ MOST }
-    requires within { taken desk.old.reader ≤ MOST }
+    requires most { desk.old.reader.most ≡ LONGEST_SESSION }
+    requires within { taken desk.old.reader ≤ LONGEST_SESSION }
     requires piece { 0 < length desk.old.piece.items }
     ensures piece { length desk.new.piece.items ≡ length desk.old.piece.items }
     ensures offset { result ≡ None → desk.new.reader.offset ≡ desk.old.reader.offset }
     ensures more { result ≡ None → length desk.old.reader.rest < length desk.new.reader.rest }
-    ensures most { desk.new.reader.most ≡ MOST }
-    ensures within { taken desk.new.reader ≤ MOST }
+    ensures most { desk.new.reader.most ≡ LONGEST_SESSION }
+    ensures within { taken desk.new.reader ≤ LONGEST_SESSION }
     ensures turns { (disk_tells clock_tells : Bool) (site : Site) → Turns result
         (telling disk_tells S.tells K.tells clock_tells)
         (scene_of site (S.whole source.old) (S.taken source.old) (K.written sink.old)
@@ -175,28 +176,28 @@ fn turn<D: Disk, S: Source, K: Sink, C: Clock>(
     sink: &mut K,
     clock: &mut C,
 ) -> Option<Status>
-    requires stands { IsTrue D.tells → Stands (D.told store.old.files.disk)
+    requires stands { IsTrue D.tells → Stands store.old.files.told
         store.old.files.catalog store.old.index }
     requires ready { IsReady store.old.files.catalog store.old.index desk.old.reader
         desk.old.piece.items }
     ensures stands { result ≡ None → IsTrue D.tells → Stands
-        (D.told store.new.files.disk) store.new.files.catalog store.new.index }
+        store.new.files.told store.new.files.catalog store.new.index }
     ensures ready { result ≡ None → IsReady store.new.files.catalog store.new.index
         desk.new.reader desk.new.piece.items }
     ensures fewer { result ≡ None → work_left desk.new.reader < work_left desk.old.reader }
     ensures turns { Turns result (telling D.tells S.tells K.tells C.tells)
-        (scene_of (site_of (D.told store.old.files.disk) store.old.files.catalog store.old.index
-        (D.faults store.old.files.disk) (D.fallible_views store.old.files.disk) (C.moments clock.old))
+        (scene_of (site_of store.old.files.told store.old.files.catalog store.old.index
+        store.old.files.faults store.old.files.fallible_views (C.moments clock.old))
         (S.whole source.old) (S.taken source.old) (K.written sink.old)
         (K.faults sink.old)) desk.old.reader desk.old.replies.items
-        (scene_of (site_of (D.told store.new.files.disk) store.new.files.catalog store.new.index
-        (D.faults store.new.files.disk) (D.fallible_views store.new.files.disk) (C.moments clock.new))
+        (scene_of (site_of store.new.files.told store.new.files.catalog store.new.index
+        store.new.files.faults store.new.files.fallible_views (C.moments clock.new))
         (S.whole source.new) (S.taken source.new) (K.written sink.new)
         (K.faults sink.new)) desk.new.reader desk.new.replies.items }
-    ensures faults { D.faults store.old.files.disk ≤ D.faults store.new.files.disk }
-    ensures disk { result ≡ Some Status.Disk → Rose (D.faults store.old.files.disk)
-        (D.faults store.new.files.disk) ⊎ Rose (D.fallible_views store.old.files.disk)
-        (D.fallible_views store.new.files.disk) }
+    ensures faults { store.old.files.faults ≤ store.new.files.faults }
+    ensures disk { result ≡ Some Status.Disk → Rose store.old.files.faults
+        store.new.files.faults ⊎ Rose store.old.files.fallible_views
+        store.new.files.fallible_views }
     ensures took { S.faults source.old ≤ S.faults source.new }
     ensures source { result ≡ Some Status.Source → Rose (S.faults source.old)
         (S.faults source.new) }
@@ -230,14 +231,14 @@ impl Desk {
     /// An empty desk.
     fn new(alloc: Global) -> Result<Desk, Memory>
         ensures reader { IfOk result
-            (λ desk. desk.reader ≡ record { rest = []; offset = 0; most = MOST }) }
+            (λ desk. desk.reader ≡ record { rest = []; offset = 0; most = LONGEST_SESSION }) }
         ensures replies { IfOk result (λ desk. desk.replies.items ≡ []) }
         ensures piece { IfOk result (λ desk. 0 < length desk.piece.items) }
     {
         let piece: Result<_, _> = vec![in alloc; 0u8; PIECE];
         match piece {
             Ok(piece) => Ok(Desk {
-                reader: Reader::new(alloc, MOST),
+                reader: Reader::new(alloc, LONGEST_SESSION),
                 replies: Vec::new(alloc),
                 piece,
             }),
@@ -254,21 +255,21 @@ pub fn talk<D: Disk, S: Source, K: Sink, C: Clock>(
     sink: &mut K,
     clock: &mut C,
 ) -> Status
-    requires holds { IsTrue D.tells → Holds (D.told store.old.files.disk)
+    requires holds { IsTrue D.tells → Holds store.old.files.told
         store.old.files.catalog store.old.index [] }
     requires files { FitsWithin 0 store.old.files.catalog }
     requires last { store.old.index.last ≡ 0 }
     ensures stopped { Stopped (telling D.tells S.tells K.tells C.tells)
-        (scene_of (site_of (D.told store.old.files.disk) store.old.files.catalog store.old.index
-        (D.faults store.old.files.disk) (D.fallible_views store.old.files.disk) (C.moments clock.old))
+        (scene_of (site_of store.old.files.told store.old.files.catalog store.old.index
+        store.old.files.faults store.old.files.fallible_views (C.moments clock.old))
         (S.whole source.old) (S.taken source.old) (K.written sink.old) (K.faults sink.old))
-        (scene_of (site_of (D.told store.new.files.disk) store.new.files.catalog store.new.index
-        (D.faults store.new.files.disk) (D.fallible_views store.new.files.disk) (C.moments clock.new))
+        (scene_of (site_of store.new.files.told store.new.files.catalog store.new.index
+        store.new.files.faults store.new.files.fallible_views (C.moments clock.new))
         (S.whole source.new) (S.taken source.new) (K.written sink.new) (K.faults sink.new)) result }
-    ensures faults { D.faults store.old.files.disk ≤ D.faults store.new.files.disk }
-    ensures disk { result ≡ Status.Disk → Rose (D.faults store.old.files.disk)
-        (D.faults store.new.files.disk) ⊎ Rose (D.fallible_views store.old.files.disk)
-        (D.fallible_views store.new.files.disk) }
+    ensures faults { store.old.files.faults ≤ store.new.files.faults }
+    ensures disk { result ≡ Status.Disk → Rose store.old.files.faults
+        store.new.files.faults ⊎ Rose store.old.files.fallible_views
+        store.new.files.fallible_views }
     ensures source { result ≡ Status.Source → Rose (S.faults source.old) (S.faults source.new) }
     ensures sink { result ≡ Status.Sink → Rose (K.faults sink.old) (K.faults sink.new) }
     ensures built { IsBuilt result }

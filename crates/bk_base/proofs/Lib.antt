@@ -1,1 +1,3 @@
+pub mod Bytes
+pub mod FixedWidth
 pub mod NameTexts

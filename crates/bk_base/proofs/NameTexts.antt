@@ -1,5 +1,6 @@
 -- The number and the ending of a name, found in its text.
-use Rattle.std.proofs.Common.{◌≡◌, ◌≢◌, ℕ, zero, suc, ◌+◌, ◌*◌, ◌^◌, ◌<◌, ◌≤◌, List, [], ◌∷◌, ◌++◌, length, get_or, Option, Some, None, Result, Ok, Err, false, refl, sym, ap, ◌∙◌, arith, codes}
+use Rattle.std.proofs.Common.{◌≡◌, ◌≢◌, ℕ, zero, suc, ◌+◌, ◌*◌, ◌^◌, ◌<◌, ◌≤◌, List, [], ◌∷◌, ◌++◌, length, get_or}
+use Rattle.std.proofs.Common.{Option, Some, None, Result, Ok, Err, false, refl, sym, ap, ◌∙◌, arith, codes}
 use Rattle.std.specs.Fmt.{decimal}
 use Rattle.std.specs.Str.Parse.{AllDigits, ParsesUnsigned, digits_value}
 use Rattle.std.proofs.lemmas.Fmt.{decimal-digits_value, decimal_digit, digits_decimal, first_decimal, decimal_injective, decimal_nonempty, parse-decimal}
@@ -21,7 +22,8 @@ numerals : IsNumeralModel (AllDigits 10) (digits_value 10)
 numerals = numerals_by_value (AllDigits 10) tells_digits
 
 above_zero : (bs : List ℕ) (n : ℕ) → 49 ≤ get_or bs 0 0 → decimal n ≡ bs → 1 ≤ n
-above_zero bs zero first e = let zero_is : decimal 0 ≡ 48 ∷ [] = decimal_digit 0 (omega arith) in let f : get_or bs 0 0 ≡ 48 = ap (λ (x : List ℕ). get_or x 0 0) (sym e ∙ zero_is) in absurd (omega arith)
+above_zero bs zero first e = let zero_is : decimal 0 ≡ 48 ∷ [] = decimal_digit 0 (omega arith) in
+    let f : get_or bs 0 0 ≡ 48 = ap (λ (x : List ℕ). get_or x 0 0) (sym e ∙ zero_is) in absurd (omega arith)
 above_zero bs (suc n) first e = omega arith
 
 -- what `parse` read, where the text begins neither with a sign nor with a zero
@@ -53,7 +55,8 @@ pub record IsNumbered (text : List ℕ) (name : Name) : Type 0 where
   pub parts : text ≡ decimal name.id ++ 46 ∷ ending
   pub no_dot : (i : ℕ) → i < length (decimal name.id) → get_or (decimal name.id) i 0 ≢ 46
 
-numbered_with : (text : List ℕ) (name : Name) (o : Option (List ℕ)) → ending_of name.kind ≡ o → text ≢ codes "bitcask.toml" → IsListed name → text ≡ text_of name → IsNumbered text name
+numbered_with : (text : List ℕ) (name : Name) (o : Option (List ℕ)) → ending_of name.kind ≡ o
+    → text ≢ codes "bitcask.toml" → IsListed name → text ≡ text_of name → IsNumbered text name
 numbered_with text name None e other listed is = absurd (other (rw e at is))
 numbered_with text name (Some ending) e other listed is =
     let number : IsFileNumber name.id = rw e at listed in
@@ -123,7 +126,8 @@ same_ending Settings Settings e = refl
 same_ending Settings _ e = absurd (omega arith)
 
 -- lists up to the first c in them
-same_cut : (c : ℕ) (xs ys es fs : List ℕ) → ((i : ℕ) → i < length xs → get_or xs i 0 ≢ c) → ((i : ℕ) → i < length ys → get_or ys i 0 ≢ c) → xs ++ c ∷ es ≡ ys ++ c ∷ fs → (xs ≡ ys) × (es ≡ fs)
+same_cut : (c : ℕ) (xs ys es fs : List ℕ) → ((i : ℕ) → i < length xs → get_or xs i 0 ≢ c)
+    → ((i : ℕ) → i < length ys → get_or ys i 0 ≢ c) → xs ++ c ∷ es ≡ ys ++ c ∷ fs → (xs ≡ ys) × (es ≡ fs)
 same_cut c [] [] es fs p q e = (refl, cc)
 same_cut c [] (y ∷ ys) es fs p q e = absurd (q 0 (omega arith) cc)
 same_cut c (x ∷ xs) [] es fs p q e = absurd (p 0 (omega arith) cc)
@@ -137,7 +141,8 @@ whole_apart n ending fits e =
     let first : 98 ≡ get_or (decimal n) 0 0 = ap (λ (x : List ℕ). get_or x 0 0) e ∙ get_or_append_left (decimal n) (46 ∷ ending) 0 0 some in
     omega (arith, digit.0, digit.1)
 
-same_with : (a b : Name) (o p : Option (List ℕ)) → ending_of a.kind ≡ o → ending_of b.kind ≡ p → IsListed a → IsListed b → text_of a ≡ text_of b → (a.id ≡ b.id) × (o ≡ p)
+same_with : (a b : Name) (o p : Option (List ℕ)) → ending_of a.kind ≡ o → ending_of b.kind ≡ p → IsListed a → IsListed b
+    → text_of a ≡ text_of b → (a.id ≡ b.id) × (o ≡ p)
 same_with a b None None oa ob la lb e = let x : a.id ≡ 0 = rw oa at la in let y : b.id ≡ 0 = rw ob at lb in (cc, refl)
 same_with a b None (Some g) oa ob la lb e = let y : IsFileNumber b.id = rw ob at lb in absurd (whole_apart b.id g y (rw (oa, ob) at e))
 same_with a b (Some f) None oa ob la lb e = let x : IsFileNumber a.id = rw oa at la in absurd (whole_apart a.id f x (sym (rw (oa, ob) at e)))

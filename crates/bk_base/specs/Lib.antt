@@ -1,3 +1,4 @@
+pub mod Blanks
 pub mod Bounds
 pub mod Names
 pub mod Status

@@ -1,6 +1,7 @@
 -- The names of the store's files. This table is all of them.
 use Rattle.std.specs.Prelude.{◌≡◌, ℕ, ◌≤◌, List, ◌∷◌, ◌++◌, Option, Some, None, MatchOption, codes}
 use Rattle.std.specs.Fmt.{decimal}
+use Rattle.bk_base.specs.declared.limits.TheConstants.{LAST_FILE}
 use Rattle.bk_base.specs.declared.names.Kind.{Kind}
 use Rattle.bk_base.specs.declared.names.Kind.TheVariants.{Main, MainTemp, Hint, HintTemp, Swap, SwapTemp, Settings}
 use Rattle.bk_base.specs.declared.names.Name.{Name}
@@ -26,7 +27,7 @@ text_of name = text_with name.id (ending_of name.kind)
 
 -- a number that a file may have
 abbrev pub IsFileNumber : ℕ → Type 0
-IsFileNumber id = (1 ≤ id) × (id ≤ 4294967294)
+IsFileNumber id = (1 ≤ id) × (id ≤ LAST_FILE)
 
 -- the name is one of the table: a number where its kind is numbered, and 0 for the settings
 abbrev pub IsListed : Name → Type 0

@@ -6,6 +6,7 @@ ghost use Rattle.std.proofs.Common.{rules};
 ghost use Rattle.bk_base.specs.Bounds.{AreBytes, IsKey};
 
 use crate::errors::Memory;
+use crate::limits::LONGEST_KEY;
 use std::hash::{Hash, Hasher};
 use std::marker::Model;
 
@@ -40,7 +41,7 @@ impl Key {
         ensures refused { IfErr result (λ refusal. refusal.len ≡ length bytes.items) }
     {
         let len = bytes.len();
-        if len == 0 || len > 65_535 {
+        if len == 0 || len > LONGEST_KEY as usize {
             return Err(KeyLength { len });
         }
         Ok(Key { bytes })

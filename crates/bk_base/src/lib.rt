@@ -7,6 +7,7 @@ mod errors;
 mod histories;
 mod jobs;
 mod keys;
+pub mod limits;
 mod names;
 mod numbers;
 mod requests;

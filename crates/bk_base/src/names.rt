@@ -6,6 +6,7 @@ ghost use Rattle.bk_base.specs.declared.names.Name.{Name};
 ghost use Rattle.bk_base.specs.Names.{IsFileNumber, IsListed, ending_of, text_of};
 
 use crate::errors::Memory;
+use crate::limits::LAST_FILE;
 use std::alloc::{AllocError, Global};
 
 /// What a file of the store holds.
@@ -29,8 +30,6 @@ pub struct Name {
     pub id: u32,
     pub kind: Kind,
 }
-
-const LAST_FILE_NUMBER: u32 = 4_294_967_294;
 
 // A sign and a leading zero both stand below it.
 const LEAST_FIRST_DIGIT: u8 = b'1';
@@ -86,7 +85,7 @@ fn file_number(text: &str) -> Option<u32>
         return None;
     }
     let id: u32 = text.parse().ok()?;
-    if id > LAST_FILE_NUMBER {
+    if id > LAST_FILE {
         return None;
     }
     Some(id)

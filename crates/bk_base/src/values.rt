@@ -2,6 +2,7 @@
 ghost use Rattle.std.specs.Prelude.{◌≡◌, ◌↔◌, length, IsOk, IfOk, IfErr};
 ghost use Rattle.bk_base.specs.Bounds.{AreBytes, IsValue};
 
+use crate::limits::LONGEST_VALUE;
 use std::marker::Model;
 
 /// A value: at most 16,777,216 bytes. Contracts see the list of its bytes.
@@ -35,7 +36,7 @@ impl Value {
         ensures refused { IfErr result (λ refusal. refusal.len ≡ length bytes.items) }
     {
         let len = bytes.len();
-        if len > 16_777_216 {
+        if len > LONGEST_VALUE as usize {
             return Err(ValueLength { len });
         }
         Ok(Value { bytes })

@@ -1,4 +1,4 @@
-pub mod Blocks
+pub mod Words
 pub mod Bounds
 pub mod Linear
 pub mod Table

@@ -49,7 +49,7 @@ bit_steps-shifted (suc n) a =
     ap (bit_steps n) (ap bit_step twice ∙ bit_step-double (a * 2 ^ n)) ∙ bit_steps-shifted n a
 
 -- a number is its lowest byte and the rest
-low_and_high : (c : ℕ) → bit_xor (c % 256) (c / 256 * 256) ≡ c
+pub low_and_high : (c : ℕ) → bit_xor (c % 256) (c / 256 * 256) ≡ c
 low_and_high c =
     let low : 0 * 256 + c % 256 ≡ c % 256 = omega arith in
     let high : c / 256 * 256 + 0 ≡ c / 256 * 256 = omega arith in

@@ -1,7 +1,8 @@
 // The register of the CRC, and how it goes on over bytes: 16 at a time by the table, the last few one by one.
 
-ghost use Rattle.std.specs.Prelude.{◌≡◌};
+ghost use Rattle.std.specs.Prelude.{◌≡◌, ◌+◌, ◌≤◌};
 ghost use Rattle.bk_crc.specs.Crc.{byte_step, register_after};
+ghost use Rattle.bk_crc.specs.Slices.{after_zeros};
 
 use crate::slices::entry;
 
@@ -9,7 +10,9 @@ pub(crate) const START: u32 = 0xffff_ffff;
 
 pub(crate) const FINAL_XOR: u32 = 0xffff_ffff;
 
-const BLOCK: usize = 16;
+const WORD: usize = 8;
+
+const BLOCK: usize = 2 * WORD;
 
 // The register after one byte.
 #[inline(always)]
@@ -20,28 +23,33 @@ fn after_byte(register: u32, byte: u8) -> u32
     entry(0, low ^ byte) ^ (register >> 8)
 }
 
-// The register after 16 bytes, of which its own four bytes meet the first four.
+// What a register of eight bytes becomes after as many zero bytes, and `zeros` more.
+#[inline(always)]
+fn after_word(zeros: usize, word: u64) -> u32
+    requires { zeros ≤ 8 }
+    ensures { result ≡ after_zeros (zeros + 8) word }
+{
+    let [first, second, third, fourth, fifth, sixth, seventh, eighth] = word.to_le_bytes();
+    entry(zeros, eighth)
+        ^ entry(zeros + 1, seventh)
+        ^ entry(zeros + 2, sixth)
+        ^ entry(zeros + 3, fifth)
+        ^ entry(zeros + 4, fourth)
+        ^ entry(zeros + 5, third)
+        ^ entry(zeros + 6, second)
+        ^ entry(zeros + 7, first)
+}
+
+// The register after 16 bytes. The order counts here and in `after_word`: the compiler keeps that of
+// the exclusive ors, and what waits for the block before has to come last.
 #[inline(always)]
 fn after_block(register: u32, block: &[u8; BLOCK]) -> u32
     ensures { result ≡ register_after register block.now }
 {
-    let [first, second, third, fourth] = register.to_le_bytes();
-    entry(15, first ^ block[0])
-        ^ entry(14, second ^ block[1])
-        ^ entry(13, third ^ block[2])
-        ^ entry(12, fourth ^ block[3])
-        ^ entry(11, block[4])
-        ^ entry(10, block[5])
-        ^ entry(9, block[6])
-        ^ entry(8, block[7])
-        ^ entry(7, block[8])
-        ^ entry(6, block[9])
-        ^ entry(5, block[10])
-        ^ entry(4, block[11])
-        ^ entry(3, block[12])
-        ^ entry(2, block[13])
-        ^ entry(1, block[14])
-        ^ entry(0, block[15])
+    let (words, _) = block.as_chunks::<WORD>();
+    let first = u64::from_le_bytes(words[0]);
+    let second = u64::from_le_bytes(words[1]);
+    after_word(0, second) ^ after_word(8, first ^ u64::from(register))
 }
 
 /// The register after the bytes.

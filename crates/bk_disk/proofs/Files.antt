@@ -10,7 +10,7 @@ use Rattle.bk_disk.specs.Calls.{Becomes, Appended, Synced, Cut, Made, Removed, R
 use Rattle.std.proofs.lemmas.Bool.{cases_Bool}
 use Rattle.std.proofs.lemmas.List.{take_all}
 use Rattle.bk_disk.proofs.Names.{same_eq}
-use Rattle.bk_disk.proofs.Tables.{at-changed, at-changed_other, at-with_name, at-without, names-changed, names-with_name, names-without, names-renamed, is_some-at, has, names_renamed, names_renamed-absent, IsOnce-append, IsOnce-without, IsOnce-renamed}
+use Rattle.bk_disk.proofs.Tables.{at-changed, at-changed_other, at-with_name, at-without, names-changed, names-with_name, names-without, names-renamed, is_some-at, has, names_renamed, names_renamed-absent, IsOnce-append, IsOnce-without, IsOnce-renamed, renamed-differs, without-differs}
 
 -- The bytes of a file after an edit
 
@@ -127,3 +127,16 @@ made_bytes n is_lent old new absent b = rw (b.image, at-with_name n [] old.image
 
 pub removed_absent : (n : Name) (old new : Told) → IsWell old → Removed n old new → IsAbsent n new.image
 removed_absent n old new w b = rw (b.image, at-without n old.image w.once) refl
+
+-- A renaming and a removal of a file that is there show in what is told
+
+only_from : (from to : Name) (image : Image) → IsOneThere from to image → is_some (at image from) ≡ true → is_some (at image to) ≡ false
+only_from from to image one there = grind (arith, one, there)
+
+pub renamed_shows : (from to : Name) (old new : Told) → IsOneThere from to old.image → is_some (at old.image from) ≡ true
+    → Renamed from to old new → new ≡ old → ⊥
+renamed_shows from to old new one there b same =
+    renamed-differs from to old.image there (only_from from to old.image one there) (sym b.image ∙ ap (λ (t : Told). t.image) same)
+
+pub removed_shows : (n : Name) (old new : Told) → is_some (at old.image n) ≡ true → Removed n old new → new ≡ old → ⊥
+removed_shows n old new there b same = without-differs n old.image there (sym b.image ∙ ap (λ (t : Told). t.image) same)

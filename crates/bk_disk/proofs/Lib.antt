@@ -4,3 +4,4 @@ pub mod Files
 pub mod Moments
 pub mod Unique
 pub mod Still
+pub mod Counts

@@ -1,8 +1,8 @@
 -- What edits of a table do to the values at its names.
-use Rattle.std.proofs.Common.{◌≡◌, Bool, true, false, cond, List, [], ◌∷◌, ◌++◌, refl, ◌∙◌, ap, arith, inl, inr}
+use Rattle.std.proofs.Common.{◌≡◌, ◌+◌, Bool, true, false, cond, List, [], ◌∷◌, ◌++◌, length, refl, sym, ◌∙◌, ap, arith, inl, inr}
 use Rattle.std.specs.declared.option.Option.TheVariants.{None, Some}
 use Rattle.std.specs.Option.{option_map, is_some}
-use Rattle.std.proofs.lemmas.Bool.{cases_Bool}
+use Rattle.std.proofs.lemmas.Bool.{cases_Bool, true≢false}
 use Rattle.bk_base.specs.declared.names.Name.{Name}
 use Rattle.bk_disk.specs.Names.{same}
 use Rattle.bk_disk.specs.Told.{untold, Table, at, names, IsNotIn, IsOnce, changed, with_name, without, renamed}
@@ -58,6 +58,19 @@ at-renamed from to (e ∷ es) h k = grind (arith, at-renamed from to es, same_re
 pub renamed-absent : {X : Type 0} (from to : Name) (t : Table X) → is_some (at t from) ≡ false → renamed from to t ≡ t
 renamed-absent from to [] h = refl
 renamed-absent from to (e ∷ es) h = grind (arith, renamed-absent from to es)
+
+-- a removal and a renaming show: the table isn't what it was
+pub without-fewer : {X : Type 0} (n : Name) (t : Table X) → is_some (at t n) ≡ true → length (without n t) + 1 ≡ length t
+without-fewer n [] h = absurd (true≢false (sym h))
+without-fewer n (e ∷ es) h = grind (arith, without-fewer n es)
+
+pub without-differs : {X : Type 0} (n : Name) (t : Table X) → is_some (at t n) ≡ true → without n t ≡ t → ⊥
+without-differs n t there same = omega (arith, without-fewer n t there, ap length same)
+
+pub renamed-differs : {X : Type 0} (from to : Name) (t : Table X)
+    → is_some (at t from) ≡ true → is_some (at t to) ≡ false → renamed from to t ≡ t → ⊥
+renamed-differs from to t there absent same =
+    true≢false (sym there ∙ ap is_some (sym (at-renamed from to t there absent)) ∙ ap (λ u. is_some (at u to)) same ∙ absent)
 
 -- The names of a table, and that each stands once
 

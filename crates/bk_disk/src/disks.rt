@@ -1,6 +1,6 @@
 //! A disk: a directory of named files that are appended to.
-ghost use Rattle.std.specs.Prelude.{◌≡◌, ◌≤◌, ◌⊎◌, Bool, true, false, List, [], ℕ, length, is_ok, IsTrue, IsOk, IfOk, OnOk, OnErr, IsErrOf};
-ghost use Rattle.bk_disk.specs.Causes.{IsCaused, HasCause, bumped};
+ghost use Rattle.std.specs.Prelude.{◌≡◌, ◌≤◌, ◌⊎◌, Bool, true, false, List, [], ℕ, length, is_ok, is_err, IsTrue, IsOk, IfOk, OnOk, OnErr, IsErrOf};
+ghost use Rattle.bk_disk.specs.Causes.{IsCaused, HasCause, bumped, most, has_failed};
 ghost use Rattle.bk_disk.specs.Names.{same};
 ghost use Rattle.bk_disk.specs.Told.{Told, listing, bytes_of, IsOurs, IsLent, IsAbsent, IsOneThere, CutsWithin, IsWithin, range_of, IsWell};
 ghost use Rattle.bk_disk.specs.Calls.{Appended, Synced, Made, Cut, Removed, Renamed, Returned, viewed};
@@ -53,6 +53,7 @@ pub trait Disk {
         ensures told { IsTrue tells → told self.new ≡ told self.old }
         ensures rooms { (n : Name) → room self.old n ≤ room self.new n }
         ensures cause { HasCause (faults self.old) (faults self.new) result }
+        ensures faults { faults self.new ≡ bumped (has_failed result) (faults self.old) }
         ensures views { fallible_views self.new ≡ fallible_views self.old }
         ensures outs { fallible_outs self.new ≡ fallible_outs self.old };
 
@@ -67,6 +68,7 @@ pub trait Disk {
         ensures memory { IsTrue tells → IsErrOf result DiskError.Memory → told self.new ≡ told self.old }
         ensures rooms { (n : Name) → room self.old n ≤ room self.new n }
         ensures cause { HasCause (faults self.old) (faults self.new) result }
+        ensures faults { faults self.new ≡ bumped (has_failed result) (faults self.old) }
         ensures views { IfOk result (λ v. fallible_views self.new
             ≡ bumped (Self.View.fallible v) (fallible_views self.old)) }
         ensures no_view { OnErr result (fallible_views self.new ≡ fallible_views self.old) }
@@ -81,6 +83,7 @@ pub trait Disk {
         ensures memory { IsTrue tells → IsErrOf result DiskError.Memory → told self.new ≡ told self.old }
         ensures rooms { (n : Name) → room self.old n ≤ room self.new n }
         ensures cause { HasCause (faults self.old) (faults self.new) result }
+        ensures faults { faults self.new ≡ bumped (has_failed result) (faults self.old) }
         ensures views { fallible_views self.new ≡ fallible_views self.old }
         ensures outs { fallible_outs self.new ≡ fallible_outs self.old };
 
@@ -106,6 +109,7 @@ pub trait Disk {
             (told self.old) (told self.new)) }
         ensures rooms { (n : Name) → same n name ≡ false → room self.old n ≤ room self.new n }
         ensures cause { IsCaused (faults self.old) (faults self.new) result }
+        ensures faults { faults self.new ≡ bumped (is_err result) (faults self.old) }
         ensures views { fallible_views self.new ≡ fallible_views self.old }
         ensures outs { fallible_outs self.new ≡ fallible_outs self.old };
 
@@ -119,6 +123,7 @@ pub trait Disk {
             ⊎ Cut name len (told self.old) (told self.new)) }
         ensures rooms { (n : Name) → room self.old n ≤ room self.new n }
         ensures cause { IsCaused (faults self.old) (faults self.new) result }
+        ensures faults { faults self.new ≡ bumped (is_err result) (faults self.old) }
         ensures views { fallible_views self.new ≡ fallible_views self.old }
         ensures outs { fallible_outs self.new ≡ fallible_outs self.old };
 
@@ -129,6 +134,7 @@ pub trait Disk {
         ensures err { IsTrue tells → OnErr result (told self.new ≡ told self.old) }
         ensures rooms { (n : Name) → room self.old n ≤ room self.new n }
         ensures cause { IsCaused (faults self.old) (faults self.new) result }
+        ensures faults { faults self.new ≡ bumped (is_err result) (faults self.old) }
         ensures views { fallible_views self.new ≡ fallible_views self.old }
         ensures outs { fallible_outs self.new ≡ fallible_outs self.old };
 
@@ -146,6 +152,7 @@ pub trait Disk {
         ensures memory { IsTrue tells → IsErrOf result DiskError.Memory → told self.new ≡ told self.old }
         ensures rooms { (n : Name) → room self.old n ≤ room self.new n }
         ensures cause { HasCause (faults self.old) (faults self.new) result }
+        ensures faults { faults self.new ≡ bumped (has_failed result) (faults self.old) }
         ensures views { fallible_views self.new ≡ fallible_views self.old }
         ensures outs { IfOk result (λ out. fallible_outs self.new
             ≡ bumped (Self.Out.fallible out) (fallible_outs self.old)) }
@@ -173,7 +180,12 @@ pub trait Disk {
         ensures memory { IsTrue tells → IsErrOf result DiskError.Memory → told self.new ≡ told self.old }
         ensures rooms { (n : Name) → same n from ≡ false → same n to ≡ false
             → room self.old n ≤ room self.new n }
+        ensures already { IsTrue tells → IsAbsent from (told self.old).image
+            → (n : Name) → room self.old n ≤ room self.new n }
+        ensures undone { IsTrue tells → told self.new ≡ told self.old
+            → (n : Name) → room self.old n ≤ room self.new n }
         ensures cause { HasCause (faults self.old) (faults self.new) result }
+        ensures faults { faults self.new ≡ bumped (has_failed result) (faults self.old) }
         ensures views { fallible_views self.new ≡ fallible_views self.old }
         ensures outs { fallible_outs self.new ≡ fallible_outs self.old };
 
@@ -185,12 +197,20 @@ pub trait Disk {
             ⊎ Removed name (told self.old) (told self.new)) }
         ensures memory { IsTrue tells → IsErrOf result DiskError.Memory → told self.new ≡ told self.old }
         ensures rooms { (n : Name) → same n name ≡ false → room self.old n ≤ room self.new n }
+        ensures undone { IsTrue tells → told self.new ≡ told self.old
+            → (n : Name) → room self.old n ≤ room self.new n }
         ensures cause { HasCause (faults self.old) (faults self.new) result }
+        ensures faults { faults self.new ≡ bumped (has_failed result) (faults self.old) }
         ensures views { fallible_views self.new ≡ fallible_views self.old }
         ensures outs { fallible_outs self.new ≡ fallible_outs self.old };
 
     /// Each name stands once in what is told.
     ghost well: { (d : Self) → IsTrue tells → IsWell (told d) };
+
+    /// No count stands past its last value, so none ever falls.
+    ghost most_views: { (d : Self) → fallible_views d ≤ most };
+
+    ghost most_outs: { (d : Self) → fallible_outs d ≤ most };
 
     /// The views of a disk that tells its content tell theirs.
     ghost views_tell: { IsTrue tells → IsTrue Self.View.tells };

@@ -1,6 +1,6 @@
 //! A disk that tells nothing, and callers at a bound: the clauses are usable from both sides.
-ghost use Rattle.std.specs.Prelude.{◌≡◌, IsTrue, OnOk, IsErrOf, ◌⊎◌};
-ghost use Rattle.bk_disk.specs.Causes.{HasCause, Rose};
+ghost use Rattle.std.specs.Prelude.{◌≡◌, ◌≤◌, IsTrue, OnOk, IsErrOf, ◌⊎◌};
+ghost use Rattle.bk_disk.specs.Causes.{HasCause, Rose, most};
 ghost use Rattle.bk_disk.specs.Told.{bytes_of, IsAbsent};
 
 use crate::{Disk, DiskError, Failed, Listed, Memory, Out, View};
@@ -15,6 +15,7 @@ struct SilentView {
 
 impl View for SilentView {
     ghost use Rattle.std.specs.Prelude.{true, false, []};
+    ghost use Rattle.bk_disk.specs.Told.{untold};
 
     ghost tells = { false };
 
@@ -25,6 +26,8 @@ impl View for SilentView {
     ghost faults = { λ v. v.faults };
 
     ghost fallible = { λ _. true };
+
+    ghost told_rest = { λ _ h. untold h };
 
     fn read(&mut self, into: &mut [u8]) -> Result<usize, Failed> {
         if into.len() as u64 >= self.left {
@@ -73,6 +76,8 @@ struct SilentDisk {
     faults: u64,
     fallible_views: u64,
     fallible_outs: u64,
+    ghost views_within: { fallible_views ≤ most },
+    ghost outs_within: { fallible_outs ≤ most },
 }
 
 impl Disk for SilentDisk {
@@ -96,6 +101,10 @@ impl Disk for SilentDisk {
     ghost fallible_outs = { λ d. d.fallible_outs };
 
     ghost well = { λ _ h. untold h };
+
+    ghost most_views = { λ d. d.views_within };
+
+    ghost most_outs = { λ d. d.outs_within };
 
     ghost views_tell = { λ h. h };
 

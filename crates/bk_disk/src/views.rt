@@ -36,4 +36,7 @@ pub trait View {
         ensures strong { fallible self.old ≡ false → IsOk result }
         ensures same_faults { fallible self.old ≡ false → faults self.new ≡ faults self.old }
         ensures fallible { fallible self.new ≡ fallible self.old };
+
+    /// A view that tells its bytes has as many left as it says.
+    ghost told_rest: { (v : Self) → IsTrue tells → length (left v) ≡ rest v };
 }

@@ -1,11 +1,11 @@
--- A row that is found by its place is the first of its file; the last row is that of the newest.
-use Rattle.std.proofs.Common.{◌≡◌, ℕ, zero, suc, ◌+◌, ◌==◌, true, false, List, [], ◌∷◌, slice_index_or, slice_set, length, refl, sym, ◌∙◌, ap, arith, subst, inl, inr}
+-- A row that is found by its place is the first of its file.
+use Rattle.std.proofs.Common.{◌≡◌, ℕ, zero, suc, ◌+◌, ◌<◌, ◌≤◌, ◌==◌, true, false, List, [], ◌∷◌, slice_index_or, slice_set, length, refl, sym, ◌∙◌, ap, arith, subst, inl, inr}
 use Rattle.std.specs.List.{position, position_from}
 use Rattle.std.specs.declared.option.Option.TheVariants.{None, Some}
 use Rattle.std.proofs.lemmas.Bool.{cases_Bool}
 use Rattle.std.proofs.lemmas.Iterator.Adapters.{position_from-zero}
 use Rattle.bk_base.specs.declared.rows.Row.{Row}
-use Rattle.bk_files.specs.Catalog.{edited, newest_edited, row_of}
+use Rattle.bk_files.specs.Catalog.{edited, edited_at, row_of}
 
 abbrev IsFirst : ℕ → List Row → ℕ → Type 0
 IsFirst id [] i = ⊥
@@ -37,9 +37,9 @@ first_row id (r ∷ rs) zero x h g = rw h (ap (λ y. Some y) g)
 first_row id (r ∷ rs) (suc i) x h g = rw h.0 (first_row id rs i x h.1 g)
 
 -- the row at the place that a search found, edited
-pub edited_at : (id : ℕ) (f : Row → Row) (rows : List Row) (i : ℕ) (x : Row) → position (λ r. r.id.0 == id) rows ≡ Some i → x ≡ slice_index_or rows i x
+pub edited_found : (id : ℕ) (f : Row → Row) (rows : List Row) (i : ℕ) (x : Row) → position (λ r. r.id.0 == id) rows ≡ Some i → x ≡ slice_index_or rows i x
     → slice_set rows i (f x) ≡ edited id f rows
-edited_at id f rows i x is g = first_edited id f rows i x (found id rows i is) g
+edited_found id f rows i x is g = first_edited id f rows i x (found id rows i is) g
 
 pub row_at : (id : ℕ) (rows : List Row) (i : ℕ) (x : Row) → position (λ r. r.id.0 == id) rows ≡ Some i → x ≡ slice_index_or rows i x → Some x ≡ row_of id rows
 row_at id rows i x is g = first_row id rows i x (found id rows i is) g
@@ -58,14 +58,13 @@ none_edited id f rows is = sym (none_from id 0 f rows (sym (position_from-zero (
 pub no_row : (id : ℕ) (rows : List Row) → position (λ r. r.id.0 == id) rows ≡ None → None ≡ row_of id rows
 no_row id rows is = sym (none_from id 0 (λ r. r) rows (sym (position_from-zero (λ (r : Row). r.id.0 == id) rows) ∙ is)).1
 
--- the last row, edited by its place
-pub newest_at : (f : Row → Row) (rows : List Row) (i : ℕ) (x : Row) → length rows ≡ i + 1 → x ≡ slice_index_or rows i x → slice_set rows i (f x) ≡ newest_edited f rows
-newest_at f [] i x long g = absurd (omega (arith, long))
-newest_at f (r ∷ []) zero x long g = ap (λ y. f y ∷ []) g
-newest_at f (r ∷ []) (suc i) x long g = absurd (omega (arith, long))
-newest_at f (r ∷ s ∷ rs) zero x long g = absurd (omega (arith, long))
-newest_at f (r ∷ s ∷ rs) (suc i) x long g = ap (λ t. r ∷ t) (newest_at f (s ∷ rs) i x (omega (arith, long)) g)
+-- the row at a place, edited
+pub edited_at-set : (f : Row → Row) (rows : List Row) (i : ℕ) (x : Row) → i < length rows → x ≡ slice_index_or rows i x → slice_set rows i (f x) ≡ edited_at i f rows
+edited_at-set f [] i x low g = absurd (omega (arith, low))
+edited_at-set f (r ∷ rs) zero x low g = ap (λ y. f y ∷ rs) g
+edited_at-set f (r ∷ rs) (suc i) x low g = ap (λ t. r ∷ t) (edited_at-set f rs i x (omega (arith, low)) g)
 
-pub newest_none : (f : Row → Row) (rows : List Row) → length rows ≡ 0 → rows ≡ newest_edited f rows
-newest_none f [] none = refl
-newest_none f (r ∷ rs) none = absurd (omega (arith, none))
+pub edited_at-past : (f : Row → Row) (rows : List Row) (i : ℕ) → length rows ≤ i → rows ≡ edited_at i f rows
+edited_at-past f [] i high = refl
+edited_at-past f (r ∷ rs) zero high = absurd (omega (arith, high))
+edited_at-past f (r ∷ rs) (suc i) high = ap (λ t. r ∷ t) (edited_at-past f rs i (omega (arith, high)))

@@ -1,42 +1,58 @@
 //! The data files of a store, over its disk.
-ghost use Rattle.std.specs.Prelude.{◌≡◌, ◌<◌, ◌≤◌, ◌^◌, ◌+◌, ◌↔◌, ◌⊎◌, None, Some, [], ℕ, true, false, length, is_ok, IsTrue, IsOk, IfOk, OnOk, OnErr, IsErrOf, IsSome};
+ghost use Rattle.std.specs.Prelude.{◌≡◌, ◌<◌, ◌≤◌, ◌^◌, ◌+◌, ◌↔◌, ◌⊎◌, None, Some, [], ℕ, true, false, length, option_map, is_ok, IsTrue, IsOk, IfOk, OnOk, OnErr, IsErrOf, IsSome};
 ghost use Rattle.bk_disk.specs.Calls.{Appended, viewed};
 ghost use Rattle.bk_disk.specs.Causes.{IsCaused, HasCause, Rose, bumped};
 ghost use Rattle.bk_disk.specs.Told.{IsAbsent, IsWithin, range_of};
 ghost use Rattle.bk_base.specs.declared.names.Name.{Name};
-ghost use Rattle.bk_files.specs.Catalog.{Begins, Grows, Same, edited, is_due, len_of, main, row_of, torn_of, with_counts, with_torn};
-ghost use Rattle.bk_files.specs.Rows.{AreSealed, IsRecord};
-ghost use Rattle.bk_files.specs.Files.{HalfRepaired, HalfRolled, Repaired, Rolled, Settled, Stands, Synchronized};
+ghost use Rattle.bk_files.specs.Catalog.{Begins, Grows, counted, main, row_of, torn};
+ghost use Rattle.bk_files.specs.Rows.{AreAtRest, IsRecord};
+ghost use Rattle.bk_files.specs.Files.{HalfRepaired, HalfRolled, IsConsistent, IsFromScratch, IsSyncedIfSealed, Repaired, Rolled, Settles, Synchronized, active_id, active_len, active_name, has_active, image_of, is_due, is_torn, last_of, rows_of};
 
-use crate::catalog::{Active, Catalog, name_of};
+use crate::catalog::{Catalog, name_of};
 use crate::errors::RollError;
 use bk_base::{FileId, Memory, Row};
 use bk_disk::{Disk, DiskError, Failed};
+use std::marker::Model;
 
 const LAST_FILE: u32 = 4_294_967_294;
 
 /// The data files of a store. One of them may be active: texts are appended to it until the next
-/// would pass the limit, and then the store rolls to a new one. Between two calls each row but for
-/// its counts is as made from scratch: `len` is the length of the file's known bytes, and `total`
-/// that of their whole records from the front.
+/// would pass the limit, and then the store rolls to a new one. A row of a file that isn't appended
+/// to has its length; the active file's has the length of the texts appended to it.
 #[derive(Drop)]
 pub struct Files<D: Disk> {
-    pub disk: D,
-    pub catalog: Catalog,
+    disk: D,
+    catalog: Catalog,
+}
+
+impl<D: Disk> Model for Files<D> {
+    ghost use Rattle.bk_files.specs.Files.{Seen, known_of, name_of};
+
+    ghost Value = { Seen };
+
+    ghost view = { λ f. record {
+      told = D.told f.disk;
+      faults = D.faults f.disk;
+      fallible_views = D.fallible_views f.disk;
+      fallible_outs = D.fallible_outs f.disk;
+      room = D.room f.disk (name_of f.catalog.active);
+      catalog = known_of f.catalog;
+    } };
 }
 
 impl<D: Disk> Files<D> {
-    /// The files of a disk, all of them sealed. The rows are as made from scratch, in order of id, up
-    /// to `last`.
+    /// The files of a disk, none of them active. The rows stand in order of id up to `last`; each
+    /// file has the length that its row says.
     pub fn new(disk: D, rows: Vec<Row>, last: FileId, max_file: u32) -> Files<D>
         requires free { IsTrue D.tells → (n : Name) → last.0 < n.id → IsAbsent n (D.told disk).image }
-        requires rows { IsTrue D.tells → AreSealed 1 (last.0 + 1) rows.items (D.told disk) }
-        ensures disk { result.disk ≡ disk }
-        ensures rows { result.catalog.rows ≡ rows }
-        ensures active { result.catalog.active ≡ None }
-        ensures last { result.catalog.last ≡ last }
-        ensures max_file { result.catalog.max_file ≡ max_file }
-        ensures stands { IsTrue D.tells → Stands result.catalog (D.told result.disk) }
+        requires rows { IsTrue D.tells → AreAtRest 1 (last.0 + 1) rows.items (D.told disk) }
+        ensures catalog { result.catalog
+            ≡ record { rows = rows.items; active = None; last = last.0; max_file = max_file } }
+        ensures told { result.told ≡ D.told disk }
+        ensures faults { result.faults ≡ D.faults disk }
+        ensures views { result.fallible_views ≡ D.fallible_views disk }
+        ensures outs { result.fallible_outs ≡ D.fallible_outs disk }
+        ensures consistent { IsTrue D.tells → IsConsistent result }
     {
         Files {
             disk,
@@ -51,27 +67,26 @@ impl<D: Disk> Files<D> {
 
     /// Whether a text of this many bytes needs a roll first.
     pub fn due(&self, size: u32) -> bool
-        ensures { result ≡ is_due size self.now.catalog }
+        ensures { result ≡ is_due size self.now }
     {
         self.catalog.is_due(size)
     }
 
     /// Repairs the active file where an append has failed: cuts it to its known length, and then
-    /// syncs it. After `Failed` the next repair does both again.
+    /// syncs it. After `Failed` the next repair does both again. Where nothing is torn it makes no
+    /// call.
     pub fn repair(&mut self) -> Result<(), Failed>
-        requires { IsTrue D.tells → Stands self.old.catalog (D.told self.old.disk) }
-        ensures ok { OnOk result
-            (self.new.catalog
-            ≡ record self.old.catalog { active = with_torn false self.old.catalog.active }) }
-        ensures err { OnErr result (self.new.catalog ≡ self.old.catalog) }
-        ensures repaired { IsTrue D.tells → OnOk result
-            (Repaired self.old.catalog (D.told self.old.disk) (D.told self.new.disk)) }
-        ensures half { IsTrue D.tells → OnErr result
-            (HalfRepaired self.old.catalog (D.told self.old.disk) (D.told self.new.disk)) }
-        ensures stands { IsTrue D.tells → Stands self.new.catalog (D.told self.new.disk) }
-        ensures cause { IsCaused (D.faults self.old.disk) (D.faults self.new.disk) result }
-        ensures views { D.fallible_views self.new.disk ≡ D.fallible_views self.old.disk }
-        ensures outs { D.fallible_outs self.new.disk ≡ D.fallible_outs self.old.disk }
+        requires { IsTrue D.tells → IsConsistent self.old }
+        ensures ok { OnOk result (Repaired D.tells self.old self.new) }
+        ensures err { OnErr result (HalfRepaired D.tells self.old self.new) }
+        ensures nothing { is_torn self.old ≡ false → IsOk result × (self.new ≡ self.old) }
+        ensures consistent { IsTrue D.tells → IsConsistent self.new }
+        ensures scratch { IsTrue D.tells → IsFromScratch self.old → IsFromScratch self.new }
+        ensures synced { IsTrue D.tells → IsSyncedIfSealed self.old → IsSyncedIfSealed self.new }
+        ensures rooms { self.old.room ≤ self.new.room }
+        ensures cause { IsCaused self.old.faults self.new.faults result }
+        ensures views { self.new.fallible_views ≡ self.old.fallible_views }
+        ensures outs { self.new.fallible_outs ≡ self.old.fallible_outs }
     {
         let Some(active) = self.catalog.active else {
             return Ok(());
@@ -79,60 +94,57 @@ impl<D: Disk> Files<D> {
         if !active.torn {
             return Ok(());
         }
-        let name = self.catalog.newest();
+        let name = name_of(active.id);
         self.disk.cut(name, active.len)?;
         self.disk.sync(name)?;
-        self.catalog.active = Some(Active {
-            len: active.len,
-            torn: false,
-        });
+        self.catalog.mend();
         Ok(())
     }
 
     /// Makes room for a text of this many bytes in the active file, where there is one that takes it.
     pub fn ready(&mut self, size: u32) -> Result<(), Memory>
-        requires { IsTrue D.tells → Stands self.old.catalog (D.told self.old.disk) }
-        ensures room { OnOk result (is_due size self.old.catalog ≡ false
-            → size ≤ D.room self.new.disk (main self.old.catalog.last.0)) }
-        ensures enough { size ≤ D.room self.old.disk (main self.old.catalog.last.0) → IsOk result }
+        requires { IsTrue D.tells → IsConsistent self.old }
+        ensures room { OnOk result (is_due size self.old ≡ false
+            → size ≤ self.new.room) }
+        ensures enough { size ≤ self.old.room → IsOk result }
         ensures catalog { self.new.catalog ≡ self.old.catalog }
-        ensures told { IsTrue D.tells → D.told self.new.disk ≡ D.told self.old.disk }
-        ensures stands { IsTrue D.tells → Stands self.new.catalog (D.told self.new.disk) }
-        ensures faults { D.faults self.new.disk ≡ D.faults self.old.disk }
-        ensures views { D.fallible_views self.new.disk ≡ D.fallible_views self.old.disk }
-        ensures outs { D.fallible_outs self.new.disk ≡ D.fallible_outs self.old.disk }
+        ensures told { IsTrue D.tells → self.new.told ≡ self.old.told }
+        ensures consistent { IsTrue D.tells → IsConsistent self.new }
+        ensures rooms { self.old.room ≤ self.new.room }
+        ensures faults { self.new.faults ≡ self.old.faults }
+        ensures views { self.new.fallible_views ≡ self.old.fallible_views }
+        ensures outs { self.new.fallible_outs ≡ self.old.fallible_outs }
     {
         if self.catalog.is_due(size) {
             return Ok(());
         }
-        let name = self.catalog.newest();
+        let name = self.catalog.active_name();
         self.disk.ready(name, u64::from(size))
     }
 
     /// Appends the text of one record to the active file, and gives its place in bytes. After
     /// `Failed` a first part of it may stand there, and the file is to be repaired.
     pub fn append(&mut self, text: &[u8]) -> Result<u64, Failed>
-        requires stands { IsTrue D.tells → Stands self.old.catalog (D.told self.old.disk) }
-        requires whole { torn_of self.old.catalog.active ≡ false }
-        requires due { is_due (length text.now) self.old.catalog ≡ false }
-        requires room { length text.now ≤ D.room self.old.disk (main self.old.catalog.last.0) }
+        requires consistent { IsTrue D.tells → IsConsistent self.old }
+        requires whole { is_torn self.old ≡ false }
+        requires due { is_due (length text.now) self.old ≡ false }
+        requires room { length text.now ≤ self.old.room }
         requires text { IsRecord text.now }
-        ensures place { IfOk result (λ at. at ≡ len_of self.old.catalog.active) }
+        ensures place { IfOk result (λ at. at ≡ active_len self.old) }
         ensures ok { OnOk result (Grows (length text.now) self.old.catalog self.new.catalog) }
-        ensures err { OnErr result
-            (self.new.catalog ≡ record self.old.catalog { active = with_torn true self.old.catalog.active }) }
+        ensures err { OnErr result (self.new.catalog ≡ torn self.old.catalog) }
         ensures appended { IsTrue D.tells → OnOk result
-            (Appended (main self.old.catalog.last.0) (length text.now) text.now
-            (D.told self.old.disk) (D.told self.new.disk)) }
-        ensures part { IsTrue D.tells → OnErr result
-            ((n : ℕ) × Appended (main self.old.catalog.last.0) n text.now
-            (D.told self.old.disk) (D.told self.new.disk)) }
-        ensures stands { IsTrue D.tells → Stands self.new.catalog (D.told self.new.disk) }
-        ensures cause { IsCaused (D.faults self.old.disk) (D.faults self.new.disk) result }
-        ensures views { D.fallible_views self.new.disk ≡ D.fallible_views self.old.disk }
-        ensures outs { D.fallible_outs self.new.disk ≡ D.fallible_outs self.old.disk }
+            (Appended (active_name self.old) (length text.now) text.now self.old.told self.new.told) }
+        ensures part { IsTrue D.tells → OnErr result ((n : ℕ)
+            × Appended (active_name self.old) n text.now self.old.told self.new.told) }
+        ensures consistent { IsTrue D.tells → IsConsistent self.new }
+        ensures scratch { IsTrue D.tells → IsFromScratch self.old → IsFromScratch self.new }
+        ensures synced { IsTrue D.tells → IsSyncedIfSealed self.old → IsSyncedIfSealed self.new }
+        ensures cause { IsCaused self.old.faults self.new.faults result }
+        ensures views { self.new.fallible_views ≡ self.old.fallible_views }
+        ensures outs { self.new.fallible_outs ≡ self.old.fallible_outs }
     {
-        let name = self.catalog.newest();
+        let name = self.catalog.active_name();
         match self.disk.append(name, text) {
             Ok(()) => Ok(self.catalog.grow(text.len() as u64)),
             Err(Failed) => {
@@ -144,42 +156,41 @@ impl<D: Disk> Files<D> {
 
     /// Syncs the active file, where there is one that isn't torn.
     fn settle(&mut self) -> Result<(), Failed>
-        requires stands { IsTrue D.tells → Stands self.old.catalog (D.told self.old.disk) }
-        requires whole { torn_of self.old.catalog.active ≡ false }
+        requires consistent { IsTrue D.tells → IsConsistent self.old }
+        requires whole { is_torn self.old ≡ false }
         ensures catalog { self.new.catalog ≡ self.old.catalog }
-        ensures synced { IsTrue D.tells → OnOk result
-            (Settled self.old.catalog (D.told self.old.disk) (D.told self.new.disk)) }
-        ensures err { IsTrue D.tells → OnErr result (D.told self.new.disk ≡ D.told self.old.disk) }
-        ensures stands { IsTrue D.tells → Stands self.new.catalog (D.told self.new.disk) }
-        ensures cause { IsCaused (D.faults self.old.disk) (D.faults self.new.disk) result }
-        ensures views { D.fallible_views self.new.disk ≡ D.fallible_views self.old.disk }
-        ensures outs { D.fallible_outs self.new.disk ≡ D.fallible_outs self.old.disk }
+        ensures settled { IsTrue D.tells → OnOk result (Settles self.old self.new) }
+        ensures err { IsTrue D.tells → OnErr result (self.new.told ≡ self.old.told) }
+        ensures nothing { has_active self.old ≡ false → IsOk result × (self.new ≡ self.old) }
+        ensures consistent { IsTrue D.tells → IsConsistent self.new }
+        ensures scratch { IsTrue D.tells → IsFromScratch self.old → IsFromScratch self.new }
+        ensures synced { IsTrue D.tells → IsSyncedIfSealed self.old → IsSyncedIfSealed self.new }
+        ensures rooms { self.old.room ≤ self.new.room }
+        ensures cause { IsCaused self.old.faults self.new.faults result }
+        ensures views { self.new.fallible_views ≡ self.old.fallible_views }
+        ensures outs { self.new.fallible_outs ≡ self.old.fallible_outs }
     {
-        if self.catalog.active.is_none() {
+        let Some(active) = self.catalog.active else {
             return Ok(());
-        }
-        let name = self.catalog.newest();
-        self.disk.sync(name)
+        };
+        self.disk.sync(name_of(active.id))
     }
 
-    /// Repairs the active file and syncs it. Without one it makes no call.
+    /// Repairs the active file and syncs it. Without one it makes no call. After `Failed` the file
+    /// is as torn as before, and at most cut, or it was repaired.
     pub fn sync(&mut self) -> Result<(), Failed>
-        requires { IsTrue D.tells → Stands self.old.catalog (D.told self.old.disk) }
-        ensures ok { OnOk result
-            (self.new.catalog
-            ≡ record self.old.catalog { active = with_torn false self.old.catalog.active }) }
-        ensures err { OnErr result ((self.new.catalog ≡ self.old.catalog)
-            ⊎ (self.new.catalog
-            ≡ record self.old.catalog { active = with_torn false self.old.catalog.active })) }
-        ensures synced { IsTrue D.tells → OnOk result
-            (Synchronized self.old.catalog (D.told self.old.disk) (D.told self.new.disk)) }
-        ensures half { IsTrue D.tells → OnErr result
-            (HalfRepaired self.old.catalog (D.told self.old.disk) (D.told self.new.disk)
-            ⊎ Repaired self.old.catalog (D.told self.old.disk) (D.told self.new.disk)) }
-        ensures stands { IsTrue D.tells → Stands self.new.catalog (D.told self.new.disk) }
-        ensures cause { IsCaused (D.faults self.old.disk) (D.faults self.new.disk) result }
-        ensures views { D.fallible_views self.new.disk ≡ D.fallible_views self.old.disk }
-        ensures outs { D.fallible_outs self.new.disk ≡ D.fallible_outs self.old.disk }
+        requires { IsTrue D.tells → IsConsistent self.old }
+        ensures ok { OnOk result (Synchronized D.tells self.old self.new) }
+        ensures err { OnErr result (HalfRepaired D.tells self.old self.new
+            ⊎ Repaired D.tells self.old self.new) }
+        ensures nothing { has_active self.old ≡ false → IsOk result × (self.new ≡ self.old) }
+        ensures consistent { IsTrue D.tells → IsConsistent self.new }
+        ensures scratch { IsTrue D.tells → IsFromScratch self.old → IsFromScratch self.new }
+        ensures synced { IsTrue D.tells → IsSyncedIfSealed self.old → IsSyncedIfSealed self.new }
+        ensures rooms { self.old.room ≤ self.new.room }
+        ensures cause { IsCaused self.old.faults self.new.faults result }
+        ensures views { self.new.fallible_views ≡ self.old.fallible_views }
+        ensures outs { self.new.fallible_outs ≡ self.old.fallible_outs }
     {
         self.repair()?;
         self.settle()?;
@@ -188,34 +199,33 @@ impl<D: Disk> Files<D> {
 
     /// Syncs the active file, where there is one, seals it, and makes the next file the active one.
     /// There is nothing to repair. `FullFiles` comes exactly where the last file number is given
-    /// out. After a refusal the files are as before, but after `Disk` the next one may stand there empty.
+    /// out. After an error the files are as before, but after `Disk` the next one may stand there
+    /// empty.
     pub fn roll(&mut self) -> Result<(), RollError>
-        requires stands { IsTrue D.tells → Stands self.old.catalog (D.told self.old.disk) }
-        requires whole { torn_of self.old.catalog.active ≡ false }
-        ensures full { IsErrOf result RollError.FullFiles ↔ (4294967294 ≤ self.old.catalog.last.0) }
+        requires consistent { IsTrue D.tells → IsConsistent self.old }
+        requires whole { is_torn self.old ≡ false }
+        ensures full { IsErrOf result RollError.FullFiles ↔ (4294967294 ≤ last_of self.old) }
         ensures ok { OnOk result (Begins self.old.catalog self.new.catalog) }
-        ensures err { OnErr result (Same self.old.catalog self.new.catalog) }
-        ensures rolled { IsTrue D.tells → OnOk result
-            (Rolled self.old.catalog (D.told self.old.disk) (D.told self.new.disk)) }
-        ensures half { IsTrue D.tells → OnErr result
-            (HalfRolled self.old.catalog (D.told self.old.disk) (D.told self.new.disk)) }
-        ensures untouched { IsTrue D.tells → IsErrOf result RollError.FullFiles
-            → D.told self.new.disk ≡ D.told self.old.disk }
+        ensures err { OnErr result (self.new.catalog ≡ self.old.catalog) }
+        ensures rolled { IsTrue D.tells → OnOk result (Rolled self.old self.new) }
+        ensures half { IsTrue D.tells → OnErr result (HalfRolled self.old self.new) }
+        ensures untouched { IsErrOf result RollError.FullFiles → self.new ≡ self.old }
         ensures unmade { IsTrue D.tells → IsErrOf result RollError.Memory
-            → (D.told self.new.disk ≡ D.told self.old.disk)
-            ⊎ Settled self.old.catalog (D.told self.old.disk) (D.told self.new.disk) }
-        ensures stands { IsTrue D.tells → Stands self.new.catalog (D.told self.new.disk) }
-        ensures later { D.faults self.old.disk ≤ D.faults self.new.disk }
-        ensures disk { IsErrOf result RollError.Disk
-            → Rose (D.faults self.old.disk) (D.faults self.new.disk) }
-        ensures views { D.fallible_views self.new.disk ≡ D.fallible_views self.old.disk }
-        ensures outs { D.fallible_outs self.new.disk ≡ D.fallible_outs self.old.disk }
+            → Settles self.old self.new }
+        ensures consistent { IsTrue D.tells → IsConsistent self.new }
+        ensures scratch { IsTrue D.tells → IsFromScratch self.old → IsFromScratch self.new }
+        ensures synced { IsTrue D.tells → IsSyncedIfSealed self.old → IsSyncedIfSealed self.new }
+        ensures room { OnErr result (self.old.room ≤ self.new.room) }
+        ensures later { self.old.faults ≤ self.new.faults }
+        ensures disk { IsErrOf result RollError.Disk → Rose self.old.faults self.new.faults }
+        ensures views { self.new.fallible_views ≡ self.old.fallible_views }
+        ensures outs { self.new.fallible_outs ≡ self.old.fallible_outs }
     {
         if self.catalog.last.0 >= LAST_FILE {
             return Err(RollError::FullFiles);
         }
-        self.catalog.reserve()?;
         self.settle()?;
+        self.catalog.reserve()?;
         let next = FileId(self.catalog.last.0 + 1);
         self.disk.create(name_of(next))?;
         self.catalog.begin();
@@ -224,57 +234,68 @@ impl<D: Disk> Files<D> {
 
     /// A view of `len` bytes of a file from `at` on. A range past its end is `Failed`.
     pub fn view(&mut self, file: FileId, at: u64, len: u64) -> Result<D::View, DiskError>
-        requires { IsTrue D.tells → Stands self.old.catalog (D.told self.old.disk) }
+        requires { IsTrue D.tells → IsConsistent self.old }
         ensures within { IsTrue D.tells → OnOk result
-            (IsWithin (main file.0) at len (D.told self.old.disk).image) }
+            (IsWithin (main file.0) at len (image_of self.old)) }
         ensures bytes { IsTrue D.tells → IfOk result
-            (λ v. D.View.left v ≡ range_of (main file.0) at len (D.told self.old.disk).image) }
+            (λ v. D.View.left v ≡ range_of (main file.0) at len (image_of self.old)) }
         ensures rest { IfOk result (λ v. D.View.rest v ≡ len) }
         ensures catalog { self.new.catalog ≡ self.old.catalog }
         ensures told { IsTrue D.tells
-            → D.told self.new.disk ≡ viewed (is_ok result) (main file.0) at len (D.told self.old.disk) }
-        ensures stands { IsTrue D.tells → Stands self.new.catalog (D.told self.new.disk) }
-        ensures rooms { (n : Name) → D.room self.old.disk n ≤ D.room self.new.disk n }
-        ensures cause { HasCause (D.faults self.old.disk) (D.faults self.new.disk) result }
+            → self.new.told ≡ viewed (is_ok result) (main file.0) at len self.old.told }
+        ensures memory { IsTrue D.tells → IsErrOf result DiskError.Memory
+            → self.new.told ≡ self.old.told }
+        ensures consistent { IsTrue D.tells → IsConsistent self.new }
+        ensures scratch { IsTrue D.tells → IsFromScratch self.old → IsFromScratch self.new }
+        ensures synced { IsTrue D.tells → IsSyncedIfSealed self.old → IsSyncedIfSealed self.new }
+        ensures rooms { self.old.room ≤ self.new.room }
+        ensures cause { HasCause self.old.faults self.new.faults result }
         ensures views { IfOk result
-            (λ v. D.fallible_views self.new.disk ≡ bumped (D.View.fallible v) (D.fallible_views self.old.disk)) }
-        ensures no_view { OnErr result (D.fallible_views self.new.disk ≡ D.fallible_views self.old.disk) }
-        ensures outs { D.fallible_outs self.new.disk ≡ D.fallible_outs self.old.disk }
+            (λ v. self.new.fallible_views ≡ bumped (D.View.fallible v) self.old.fallible_views) }
+        ensures no_view { OnErr result (self.new.fallible_views ≡ self.old.fallible_views) }
+        ensures outs { self.new.fallible_outs ≡ self.old.fallible_outs }
     {
         self.disk.view(name_of(file), at, len)
     }
 
+    /// The active file.
+    pub fn active(&self) -> Option<FileId>
+        ensures { result ≡ active_id self.now }
+    {
+        self.catalog.active.map(|active| active.id)
+    }
+
     /// The row of a file.
     pub fn row(&self, file: FileId) -> Option<Row>
-        ensures { result ≡ row_of file.0 self.now.catalog.rows.items }
+        ensures { result ≡ row_of file.0 (rows_of self.now) }
     {
         self.catalog.row(file)
     }
 
     /// All rows, in order of id.
     pub fn rows(&self) -> &[Row]
-        ensures { result.now ≡ self.now.catalog.rows.items }
+        ensures { result.now ≡ rows_of self.now }
     {
         self.catalog.rows.as_slice()
     }
 
-    /// Sets the two counts of a file's row.
+    /// Sets the two counts of a file's row, where it has one.
     pub fn count(&mut self, file: FileId, live: u64, refs: u64)
-        ensures stands { IsTrue D.tells → Stands self.old.catalog (D.told self.old.disk)
-            → Stands self.new.catalog (D.told self.new.disk) }
-        ensures disk { self.new.disk ≡ self.old.disk }
-        ensures rows { self.new.catalog.rows.items
-            ≡ edited file.0 (with_counts live refs) self.old.catalog.rows.items }
-        ensures active { self.new.catalog.active ≡ self.old.catalog.active }
-        ensures last { self.new.catalog.last ≡ self.old.catalog.last }
-        ensures max_file { self.new.catalog.max_file ≡ self.old.catalog.max_file }
+        ensures counts { self.new ≡ record self.old { catalog = counted file.0 live refs self.old.catalog } }
+        ensures consistent { IsTrue D.tells → IsConsistent self.old → IsConsistent self.new }
+        ensures scratch { IsTrue D.tells → IsFromScratch self.old → IsFromScratch self.new }
+        ensures synced { IsTrue D.tells → IsSyncedIfSealed self.old → IsSyncedIfSealed self.new }
     {
         self.catalog.count(file, live, refs);
     }
 
     /// The disk.
     pub fn into_disk(self) -> D
-        ensures { result ≡ self.disk }
+        ensures told { D.told result ≡ self.told }
+        ensures faults { D.faults result ≡ self.faults }
+        ensures views { D.fallible_views result ≡ self.fallible_views }
+        ensures outs { D.fallible_outs result ≡ self.fallible_outs }
+        ensures room { D.room result (active_name self) ≡ self.room }
     {
         let Files { disk, catalog: _ } = self;
         disk

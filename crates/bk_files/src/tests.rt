@@ -1,12 +1,11 @@
-//! Files over a disk in memory: where they roll, what a repair leaves, and what a stop leaves after
+//! Files over a disk in memory: where they roll, what a repair leaves, and what a crash leaves after
 //! each call of the disk.
 ghost use Rattle.std.specs.Prelude.{◌≡◌, false, IfOk, IsTrue, OnOk};
-ghost use Rattle.bk_files.specs.Catalog.{is_due, torn_of};
-ghost use Rattle.bk_files.specs.Files.{Stands};
+ghost use Rattle.bk_files.specs.Files.{IsConsistent, is_due, is_torn};
 ghost use Rattle.bk_files.specs.Rows.{IsRecord};
-ghost use Rattle.bk_memdisk.specs.Disk.{told_by};
 
-use crate::{Files, RollError};
+use crate::catalog::Catalog;
+use crate::{Active, Files, RollError};
 use bk_base::{Body, FileId, Key, Kind, Moment, Name, Row, RowState, Seq, Value, Write};
 use bk_disk::Disk;
 use bk_memdisk::{Choice, MemDisk};
@@ -41,11 +40,11 @@ fn record(alloc: Global, value: usize) -> Result<Vec<u8>, Fail>
 
 // Rolls, where the text needs a new file.
 fn make_place<D: Disk>(files: &mut Files<D>, size: u32) -> Result<(), RollError>
-    requires stands { IsTrue D.tells → Stands files.old.catalog (D.told files.old.disk) }
-    requires whole { torn_of files.old.catalog.active ≡ false }
-    ensures stands { IsTrue D.tells → Stands files.new.catalog (D.told files.new.disk) }
-    ensures whole { OnOk result (torn_of files.new.catalog.active ≡ false) }
-    ensures due { OnOk result (is_due size files.new.catalog ≡ false) }
+    requires stands { IsTrue D.tells → IsConsistent files.old }
+    requires whole { is_torn files.old ≡ false }
+    ensures stands { IsTrue D.tells → IsConsistent files.new }
+    ensures whole { OnOk result (is_torn files.new ≡ false) }
+    ensures due { OnOk result (is_due size files.new ≡ false) }
 {
     if files.due(size) {
         return files.roll();
@@ -55,9 +54,9 @@ fn make_place<D: Disk>(files: &mut Files<D>, size: u32) -> Result<(), RollError>
 
 // What a put does with its record.
 fn put<D: Disk>(files: &mut Files<D>, text: &[u8]) -> Result<u64, RollError>
-    requires stands { IsTrue D.tells → Stands files.old.catalog (D.told files.old.disk) }
+    requires stands { IsTrue D.tells → IsConsistent files.old }
     requires text { IsRecord text.now }
-    ensures stands { IsTrue D.tells → Stands files.new.catalog (D.told files.new.disk) }
+    ensures stands { IsTrue D.tells → IsConsistent files.new }
 {
     let Ok(size) = u32::try_from(text.len()) else {
         return Err(RollError::Memory);
@@ -68,15 +67,51 @@ fn put<D: Disk>(files: &mut Files<D>, text: &[u8]) -> Result<u64, RollError>
     Ok(files.append(text)?)
 }
 
-fn row(id: u32, len: u64, state: RowState) -> Option<Row> {
-    Some(Row {
+fn made(id: u32, len: u64, state: RowState) -> Row {
+    Row {
         len,
         total: len,
         live: 0,
         refs: 0,
         id: FileId(id),
         state,
-    })
+    }
+}
+
+fn row(id: u32, len: u64, state: RowState) -> Option<Row> {
+    Some(made(id, len, state))
+}
+
+// A merge drew the ids 2 and 3 while the file 1 is active, and 2 has a row.
+#[test]
+fn the_active_file_stands_below_an_output(rt: HostRuntime) -> Result<(), Fail> {
+    let mut rows = Vec::new(rt.alloc());
+    rows.push(made(1, 100, RowState::Active))?;
+    rows.push(made(2, 70, RowState::Output))?;
+    let mut catalog = Catalog {
+        rows,
+        active: Some(Active {
+            id: FileId(1),
+            place: 0,
+            len: 100,
+            torn: false,
+        }),
+        last: FileId(3),
+        max_file: 4096,
+    };
+    assert_eq!(rt; catalog.grow(50), 100);
+    assert_eq!(rt; catalog.row(FileId(1)), row(1, 150, RowState::Active));
+    assert_eq!(rt; catalog.row(FileId(2)), row(2, 70, RowState::Output));
+    catalog.reserve()?;
+    catalog.begin();
+    assert_eq!(rt; catalog.row(FileId(1)), row(1, 150, RowState::Sealed));
+    assert_eq!(rt; catalog.row(FileId(2)), row(2, 70, RowState::Output));
+    assert_eq!(rt; catalog.row(FileId(4)), row(4, 0, RowState::Active));
+    assert_eq!(rt;
+        catalog.active.map(|active| (active.id, active.place)),
+        Some((FileId(4), 2))
+    );
+    Ok(())
 }
 
 #[test]
@@ -104,15 +139,17 @@ fn a_failed_append_is_cut_away(rt: HostRuntime) -> Result<(), Fail> {
     let text = record(rt.alloc(), 77)?;
     assert_eq!(rt; put(&mut files, &text), Ok(0));
     assert_eq!(rt; put(&mut files, &text), Err(RollError::Disk));
-    assert_eq!(rt; files.disk.bytes(FIRST).map(|bytes| bytes.len()), Some(124));
+    assert!(rt; files.view(FileId(1), 0, 124).is_ok());
+    assert!(rt; files.view(FileId(1), 0, 125).is_err());
     assert_eq!(rt; files.row(FileId(1)), row(1, 100, RowState::Active));
     assert_eq!(rt; put(&mut files, &text), Ok(100));
-    assert_eq!(rt; files.disk.bytes(FIRST).map(|bytes| bytes.len()), Some(200));
     files.sync()?;
+    let disk = files.into_disk();
+    assert_eq!(rt; disk.bytes(FIRST).map(|bytes| bytes.len()), Some(200));
     Ok(())
 }
 
-// What was done before the put that a stop cuts off.
+// What was done before the put that a crash cuts off.
 #[derive(Clone, Copy, Debug, PartialEq, Eq)]
 enum Before {
     // A record was put and synced.
@@ -126,8 +163,8 @@ enum Before {
 // The lengths of the two files.
 type Lengths = (usize, Option<usize>);
 
-// How many calls of the disk are done, with what effect the next one fails, and then what a stop
-// leaves: first where it keeps all bytes, and then where it keeps the synced ones alone. A record
+// Before the put stand three calls of the disk. How many more are done, with what effect the next one
+// fails, and then what a crash leaves: first where it keeps all bytes, and then where it keeps the synced ones alone. A record
 // has 2,048 bytes.
 const STOPS: [(Before, u64, u64, Lengths, Lengths); 20] = [
     (Before::Synced, 0, 0, (2048, None), (2048, None)),
@@ -152,14 +189,21 @@ const STOPS: [(Before, u64, u64, Lengths, Lengths); 20] = [
     (Before::Torn, 3, 1, (4096, None), (2048, None)),
 ];
 
-fn prepared(alloc: Global, before: Before, text: &[u8]) -> Result<Files<MemDisk>, Fail>
+fn prepared(
+    alloc: Global,
+    before: Before,
+    text: &[u8],
+    calls: u64,
+    effect: u64,
+) -> Result<Files<MemDisk>, Fail>
     requires { IsRecord text.now }
-    ensures { IfOk result (λ files. Stands files.catalog (told_by files.disk)) }
+    ensures { IfOk result (λ files. IsConsistent files) }
 {
     let mut disk = MemDisk::new(alloc);
     if before == Before::Torn {
         disk.fail(3, 24)?;
     }
+    disk.fuse(calls.saturating_add(3), effect);
     let mut files = Files::new(disk, Vec::new(alloc), FileId(0), 4096);
     put(&mut files, text)?;
     if before == Before::Synced {
@@ -171,14 +215,13 @@ fn prepared(alloc: Global, before: Before, text: &[u8]) -> Result<Files<MemDisk>
 }
 
 #[test]
-fn a_stop_leaves_what_was_done_or_synced(rt: HostRuntime) -> Result<(), Fail> {
+fn a_crash_leaves_what_was_done_or_synced(rt: HostRuntime) -> Result<(), Fail> {
     let text = record(rt.alloc(), 2025)?;
     let mut twice = text.to_vec(rt.alloc())?;
     twice.extend_from_slice(&text)?;
     for (before, calls, effect, done, synced) in STOPS {
         for (keep, (first, second)) in [(None, done), (Some(0), synced)] {
-            let mut files = prepared(rt.alloc(), before, &text)?;
-            files.disk.fuse(calls, effect);
+            let mut files = prepared(rt.alloc(), before, &text, calls, effect)?;
             let _cut_off = put(&mut files, &text);
             let choice = Choice {
                 keep,

@@ -1,5 +1,6 @@
 -- Which write of a log is the last one of its key.
-use Rattle.std.proofs.Common.{◌≡◌, ◌∙◌, ℕ, ◌+◌, ◌<◌, List, [], ◌∷◌, ◌++◌, length, take, drop, get_or, Bool, true, cond, Option, Some, None, refl, sym, ap, arith}
+use Rattle.std.proofs.Common.{◌≡◌, ◌∙◌, ℕ, ◌+◌, ◌<◌, List, [], ◌∷◌, ◌++◌, length, take, drop, get_or, Bool, true, cond}
+use Rattle.std.proofs.Common.{Option, Some, None, refl, sym, ap, arith}
 use Rattle.std.specs.Str.{bytes_eq}
 use Rattle.std.proofs.lemmas.List.{drop_more, length-take-le, take-append-drop}
 use Rattle.bk_base.specs.declared.writes.Write.{Write}
@@ -25,7 +26,9 @@ pub found : (log : List Write) (key : List ℕ) (place : ℕ) (w : Write) → pl
     → bytes_eq w.key key ≡ true → winner (drop (place + 1) log) key ≡ None → IsWinner log key place
 found log key place w inside is same none =
     let split : log ≡ take place log ++ w ∷ drop (place + 1) log =
-    sym (take-append-drop place log) ∙ ap (λ (l : List Write). take place log ++ l) (drop_more log place w inside ∙ ap (λ (x : Write). x ∷ drop (place + 1) log) (sym is)) in
+    sym (take-append-drop place log)
+    ∙ ap (λ (l : List Write). take place log ++ l)
+    (drop_more log place w inside ∙ ap (λ (x : Write). x ∷ drop (place + 1) log) (sym is)) in
     record {
       before = take place log;
       write = w;

@@ -1,7 +1,9 @@
 -- A history: which replies are legal, and what each call changes.
-use Rattle.std.specs.Prelude.{◌≡◌, ℕ, ◌<◌, List, [], ◌∷◌, ◌++◌, Bool, true, false, ◌&&◌, ◌==◌, not, cond, Option, None, Some, is_some, is_none, map, filter, Contains}
+use Rattle.std.specs.Prelude.{◌≡◌, ℕ, ◌<◌, List, [], ◌∷◌, ◌++◌, Bool, true, false, ◌&&◌, ◌==◌, not, cond, Option, None}
+use Rattle.std.specs.Prelude.{Some, is_some, is_none, map, filter, Contains}
 use Rattle.std.specs.List.{list_any}
 use Rattle.std.specs.Str.{bytes_eq}
+use Rattle.bk_base.specs.declared.limits.TheConstants.{MOST_FOLDS}
 use Rattle.bk_base.specs.declared.numbers.Moment.{Moment}
 use Rattle.bk_base.specs.declared.numbers.Seq.{Seq}
 use Rattle.bk_base.specs.declared.writes.Write.{Write}
@@ -59,9 +61,9 @@ changed caller call reply s = s
 abbrev pub is_expired : List Write → List ℕ → ℕ → ℕ → Bool
 is_expired log key now ttl = is_some (put_of (winner log key)) && is_none (live log key now ttl)
 
--- the least slot of 0 to 63 that isn't open
+-- the least slot below the limit that isn't open
 pub record IsLeastFree (slot : ℕ) (s : State) : Type 0 where
-  pub within : slot < 64
+  pub within : slot < MOST_FOLDS
   pub free : is_open slot s ≡ false
   pub least : (n : ℕ) → n < slot → is_open n s ≡ true
 

@@ -9,6 +9,7 @@
 use Rattle.std.specs.Prelude.{◌≡◌, ℕ, ◌+◌, ◌^◌, ◌<◌, ◌≤◌, List, ◌++◌, [], length, drop}
 use Rattle.std.specs.Int.{w16, w32, w64, to_be_bytes}
 use Rattle.std.specs.List.{AllByRecursion, flat_map}
+use Rattle.bk_base.specs.declared.limits.TheConstants.{LAST_SEQ, RECORD_HEADER, TOMBSTONE}
 use Rattle.bk_base.specs.declared.writes.Write.{Write}
 use Rattle.bk_base.specs.declared.writes.Body.{Body}
 use Rattle.bk_base.specs.declared.writes.Body.TheVariants.{Put, Gone}
@@ -23,7 +24,7 @@ value_of Gone = []
 -- what the length field of the value holds
 abbrev pub value_field : Body → ℕ
 value_field (Put value) = length value
-value_field Gone = 4294967295
+value_field Gone = TOMBSTONE
 
 -- the header behind the checksum
 unfoldable pub fields_of : Write → List ℕ
@@ -43,11 +44,11 @@ record_of w = to_be_bytes w32 (checksum_of w) ++ covered_of w
 
 -- its length in bytes
 abbrev pub size_of : Write → ℕ
-size_of w = 22 + length w.key + length (value_of w.body)
+size_of w = RECORD_HEADER + length w.key + length (value_of w.body)
 
 -- a seq that a write may have
 abbrev pub IsSeq : ℕ → Type 0
-IsSeq seq = (1 ≤ seq) × (seq < 2 ^ 63)
+IsSeq seq = (1 ≤ seq) × (seq ≤ LAST_SEQ)
 
 abbrev pub FitsBody : Body → Type 0
 FitsBody (Put value) = FitsValue value

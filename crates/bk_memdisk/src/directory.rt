@@ -1,5 +1,5 @@
 //! The files of a disk in memory, with the journal of their changes.
-ghost use Rattle.std.specs.Prelude.{◌≡◌, ◌+◌, ◌<◌, ◌≤◌, ◌⊎◌, Bool, false, true, not, List, [], ℕ, length, take, drop, map, position, IsTrue, IsOk, IfOk, OnOk, OnErr, is_ok, IsSome, option_copied, IfSome, IsErrOf, ◌↔◌};
+ghost use Rattle.std.specs.Prelude.{◌≡◌, ◌+◌, ◌<◌, ◌≤◌, ◌⊎◌, Bool, false, true, not, List, [], ℕ, length, take, drop, map, position, IsTrue, IsOk, IfOk, OnOk, OnErr, is_ok, is_some, IsSome, option_copied, IfSome, IsErrOf, ◌↔◌};
 ghost use Rattle.bk_disk.specs.Names.{same};
 ghost use Rattle.bk_disk.specs.Told.{nothing_told, names, IsOnce, at, bytes_of, listing, IsOurs, IsLent, IsOneThere, is_within, range_of, CutsWithin, IsWithin};
 ghost use Rattle.bk_disk.specs.Stops.{MayLeave, IsSynced};
@@ -179,6 +179,9 @@ impl Directory {
         ensures err { OnErr result (self.new ≡ self.old) }
         ensures rooms { (n : Name) → same n from ≡ false → same n to ≡ false → room_of self.old n
             ≤ room_of self.new n }
+        ensures already { is_some (at self.old.told.image from) ≡ false
+            → KeepsRooms self.old self.new }
+        ensures undone { self.new.told ≡ self.old.told → KeepsRooms self.old self.new }
     {
         let Some(index) = find(&self.files, from) else {
             return Ok(());
@@ -194,6 +197,7 @@ impl Directory {
         ensures ok { OnOk result (Removed name self.old.told self.new.told) }
         ensures err { OnErr result (self.new ≡ self.old) }
         ensures rooms { (n : Name) → same n name ≡ false → room_of self.old n ≤ room_of self.new n }
+        ensures undone { self.new.told ≡ self.old.told → KeepsRooms self.old self.new }
     {
         let Some(index) = find(&self.files, name) else {
             return Ok(());

@@ -1,6 +1,6 @@
 //! A disk in memory.
-ghost use Rattle.std.specs.Prelude.{◌≡◌, ◌≤◌, ◌⊎◌, ◌↔◌, ℕ, min, true, false, IsTrue, IsSome, IfSome, is_some, is_ok, IsOk, IsErr, IsErrOf, [], length, IfOk, OnOk, OnErr, option_copied};
-ghost use Rattle.bk_disk.specs.Causes.{Rose};
+ghost use Rattle.std.specs.Prelude.{◌≡◌, ◌≤◌, ◌⊎◌, ◌↔◌, ℕ, min, true, false, IsTrue, IsSome, IfSome, is_some, is_ok, is_err, IsOk, IsErr, IsErrOf, [], length, IfOk, OnOk, OnErr, option_copied};
+ghost use Rattle.bk_disk.specs.Causes.{Rose, bumped, most};
 ghost use Rattle.bk_disk.specs.Well.{is_well};
 
 use crate::choices::Choice;
@@ -23,6 +23,7 @@ pub struct MemDisk {
     faults: u64,
     fallible_views: u64,
     ghost well: { IsTrue (is_well directory.told) },
+    ghost views_within: { fallible_views ≤ most },
 }
 
 impl MemDisk {
@@ -142,6 +143,7 @@ impl MemDisk {
 fn fault(faults: &mut u64) -> Failed
     ensures later { faults.old ≤ faults.new }
     ensures rose { Rose faults.old faults.new }
+    ensures counted { faults.new ≡ bumped true faults.old }
 {
     *faults = faults.saturating_add(1);
     Failed
@@ -151,14 +153,15 @@ fn fault(faults: &mut u64) -> Failed
 impl Disk for MemDisk {
     ghost use Rattle.std.specs.Prelude.{refl};
     ghost use Rattle.bk_base.specs.declared.names.Name.{Name};
-    ghost use Rattle.bk_memdisk.specs.Contents.{room_of};
+    ghost use Rattle.bk_memdisk.specs.Contents.{room_of, KeepsRooms};
     ghost use Rattle.bk_memdisk.specs.Disk.{told_by, calls_of, views_of, faults_of, SamePlans, Answers, Fails};
     ghost use Rattle.bk_memdisk.specs.Plans.{next_effect, one_later};
     ghost use Rattle.bk_disk.specs.Names.{same};
     ghost use Rattle.bk_disk.specs.Told.{bytes_of, listing, range_of, IsWithin, IsOurs, IsLent, IsAbsent, IsOneThere, CutsWithin};
     ghost use Rattle.bk_disk.specs.Calls.{Made, Appended, Cut, Synced, Removed, Renamed, Returned, viewed};
-    ghost use Rattle.bk_disk.specs.Causes.{IsCaused, HasCause, bumped};
+    ghost use Rattle.bk_disk.specs.Causes.{IsCaused, HasCause, bumped, has_failed};
     ghost use Rattle.bk_disk.proofs.Unique.{from_test};
+    ghost use Rattle.bk_disk.proofs.Counts.{none_within};
 
     type View = MemView;
 
@@ -178,6 +181,10 @@ impl Disk for MemDisk {
 
     ghost well = { λ d _. from_test d.directory.told d.well };
 
+    ghost most_views = { λ d. d.views_within };
+
+    ghost most_outs = { λ _. none_within };
+
     ghost views_tell = { λ _. refl };
 
     ghost outs_tell = { λ _. refl };
@@ -187,6 +194,7 @@ impl Disk for MemDisk {
         ensures told { told_by self.new ≡ told_by self.old }
         ensures rooms { (n : Name) → room_of self.old.directory n ≤ room_of self.new.directory n }
         ensures cause { HasCause (faults_of self.old) (faults_of self.new) result }
+        ensures faults { faults_of self.new ≡ bumped (has_failed result) (faults_of self.old) }
         ensures views { self.new.fallible_views ≡ self.old.fallible_views }
         ensures failed { IsErrOf result DiskError.Failed ↔ IsSome (next_effect (calls_of self.old)) }
         ensures counted { calls_of self.new ≡ one_later (calls_of self.old) }
@@ -206,6 +214,7 @@ impl Disk for MemDisk {
         ensures memory { IsErrOf result DiskError.Memory → told_by self.new ≡ told_by self.old }
         ensures rooms { (n : Name) → room_of self.old.directory n ≤ room_of self.new.directory n }
         ensures cause { HasCause (faults_of self.old) (faults_of self.new) result }
+        ensures faults { faults_of self.new ≡ bumped (has_failed result) (faults_of self.old) }
         ensures views { IfOk result (λ view. self.new.fallible_views ≡ bumped view.fallible self.old.fallible_views) }
         ensures no_view { OnErr result (self.new.fallible_views ≡ self.old.fallible_views) }
         ensures fallible { IfOk result (λ view. view.fallible ≡ is_some (next_effect (views_of self.old))) }
@@ -237,6 +246,7 @@ impl Disk for MemDisk {
         ensures memory { IsErrOf result DiskError.Memory → told_by self.new ≡ told_by self.old }
         ensures rooms { (n : Name) → room_of self.old.directory n ≤ room_of self.new.directory n }
         ensures cause { HasCause (faults_of self.old) (faults_of self.new) result }
+        ensures faults { faults_of self.new ≡ bumped (has_failed result) (faults_of self.old) }
         ensures views { self.new.fallible_views ≡ self.old.fallible_views }
         ensures answers { Answers (next_effect (calls_of self.old)) result
             (Made name false (told_by self.old) (told_by self.new))
@@ -279,6 +289,7 @@ impl Disk for MemDisk {
         ensures rooms { (n : Name) → same n name ≡ false → room_of self.old.directory n
             ≤ room_of self.new.directory n }
         ensures cause { IsCaused (faults_of self.old) (faults_of self.new) result }
+        ensures faults { faults_of self.new ≡ bumped (is_err result) (faults_of self.old) }
         ensures views { self.new.fallible_views ≡ self.old.fallible_views }
         ensures failed { IsErr result ↔ IsSome (next_effect (calls_of self.old)) }
         ensures through { IfSome (next_effect (calls_of self.old))
@@ -308,6 +319,7 @@ impl Disk for MemDisk {
             ⊎ Cut name len (told_by self.old) (told_by self.new)) }
         ensures rooms { (n : Name) → room_of self.old.directory n ≤ room_of self.new.directory n }
         ensures cause { IsCaused (faults_of self.old) (faults_of self.new) result }
+        ensures faults { faults_of self.new ≡ bumped (is_err result) (faults_of self.old) }
         ensures views { self.new.fallible_views ≡ self.old.fallible_views }
         ensures fails { Fails (next_effect (calls_of self.old)) result
             (Cut name len (told_by self.old) (told_by self.new))
@@ -334,6 +346,7 @@ impl Disk for MemDisk {
         ensures err { OnErr result (told_by self.new ≡ told_by self.old) }
         ensures rooms { (n : Name) → room_of self.old.directory n ≤ room_of self.new.directory n }
         ensures cause { IsCaused (faults_of self.old) (faults_of self.new) result }
+        ensures faults { faults_of self.new ≡ bumped (is_err result) (faults_of self.old) }
         ensures views { self.new.fallible_views ≡ self.old.fallible_views }
         ensures failed { IsErr result ↔ IsSome (next_effect (calls_of self.old)) }
         ensures counted { calls_of self.new ≡ one_later (calls_of self.old) }
@@ -355,6 +368,7 @@ impl Disk for MemDisk {
         ensures memory { IsErrOf result DiskError.Memory → told_by self.new ≡ told_by self.old }
         ensures rooms { (n : Name) → room_of self.old.directory n ≤ room_of self.new.directory n }
         ensures cause { HasCause (faults_of self.old) (faults_of self.new) result }
+        ensures faults { faults_of self.new ≡ bumped (has_failed result) (faults_of self.old) }
         ensures views { self.new.fallible_views ≡ self.old.fallible_views }
         ensures answers { Answers (next_effect (calls_of self.old)) result
             (Made name true (told_by self.old) (told_by self.new))
@@ -396,7 +410,12 @@ impl Disk for MemDisk {
         ensures memory { IsErrOf result DiskError.Memory → told_by self.new ≡ told_by self.old }
         ensures rooms { (n : Name) → same n from ≡ false → same n to ≡ false → room_of self.old.directory n
             ≤ room_of self.new.directory n }
+        ensures already { IsAbsent from (told_by self.old).image
+            → KeepsRooms self.old.directory self.new.directory }
+        ensures undone { told_by self.new ≡ told_by self.old
+            → KeepsRooms self.old.directory self.new.directory }
         ensures cause { HasCause (faults_of self.old) (faults_of self.new) result }
+        ensures faults { faults_of self.new ≡ bumped (has_failed result) (faults_of self.old) }
         ensures views { self.new.fallible_views ≡ self.old.fallible_views }
         ensures answers { Answers (next_effect (calls_of self.old)) result
             (Renamed from to (told_by self.old) (told_by self.new))
@@ -421,7 +440,10 @@ impl Disk for MemDisk {
         ensures memory { IsErrOf result DiskError.Memory → told_by self.new ≡ told_by self.old }
         ensures rooms { (n : Name) → same n name ≡ false → room_of self.old.directory n
             ≤ room_of self.new.directory n }
+        ensures undone { told_by self.new ≡ told_by self.old
+            → KeepsRooms self.old.directory self.new.directory }
         ensures cause { HasCause (faults_of self.old) (faults_of self.new) result }
+        ensures faults { faults_of self.new ≡ bumped (has_failed result) (faults_of self.old) }
         ensures views { self.new.fallible_views ≡ self.old.fallible_views }
         ensures answers { Answers (next_effect (calls_of self.old)) result
             (Removed name (told_by self.old) (told_by self.new))

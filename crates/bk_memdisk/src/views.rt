@@ -40,7 +40,7 @@ impl MemView {
 }
 
 impl View for MemView {
-    ghost use Rattle.std.specs.Prelude.{true, length};
+    ghost use Rattle.std.specs.Prelude.{true, length, refl};
 
     ghost tells = { true };
 
@@ -51,6 +51,8 @@ impl View for MemView {
     ghost faults = { λ v. v.faults };
 
     ghost fallible = { λ v. v.fallible };
+
+    ghost told_rest = { λ _ _. refl };
 
     fn read(&mut self, into: &mut [u8]) -> Result<usize, Failed>
         ensures failed { IsErr result ↔ IsTrue self.old.fallible }

@@ -1,5 +1,6 @@
 //! The files of a folder as a disk.
-ghost use Rattle.std.specs.Prelude.{◌≡◌, IfOk};
+ghost use Rattle.std.specs.Prelude.{◌≡◌, ◌≤◌, IfOk};
+ghost use Rattle.bk_disk.specs.Causes.{most};
 
 use crate::errors::OsRefused;
 use crate::faults::Faults;
@@ -19,6 +20,8 @@ pub struct OsDisk<R: Files<File = File> + Alloc<A = Global> + Clone + Drop> {
     faults: Faults,
     fallible_views: u64,
     fallible_outs: u64,
+    ghost views_within: { fallible_views ≤ most },
+    ghost outs_within: { fallible_outs ≤ most },
 }
 
 impl<R: Files<File = File> + Alloc<A = Global> + Clone + Drop> OsDisk<R> {
@@ -57,6 +60,10 @@ impl<R: Files<File = File> + Alloc<A = Global> + Clone + Drop> Disk for OsDisk<R
     ghost fallible_outs = { λ d. d.fallible_outs };
 
     ghost well = { λ _ h. untold h };
+
+    ghost most_views = { λ d. d.views_within };
+
+    ghost most_outs = { λ d. d.outs_within };
 
     ghost views_tell = { λ h. h };
 

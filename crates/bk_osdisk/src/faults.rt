@@ -1,6 +1,6 @@
 //! How an adapter counts its faults.
-ghost use Rattle.std.specs.Prelude.{◌≡◌, ◌≤◌, Ok, IfOk, OnOk};
-ghost use Rattle.bk_disk.specs.Causes.{Rose, IsCaused, HasCause};
+ghost use Rattle.std.specs.Prelude.{◌≡◌, ◌≤◌, true, Ok, is_err, IfOk};
+ghost use Rattle.bk_disk.specs.Causes.{Rose, IsCaused, HasCause, bumped, has_failed};
 ghost use Rattle.bk_osdisk.specs.declared.faults.Trouble.TheVariants.{Memory as memory, Fault as fault};
 
 use bk_base::Memory;
@@ -66,6 +66,7 @@ impl Faults {
     pub(crate) fn failed(&mut self) -> Failed
         ensures later { self.old.count ≤ self.new.count }
         ensures rose { Rose self.old.count self.new.count }
+        ensures counted { self.new.count ≡ bumped true self.old.count }
     {
         self.count = self.count.saturating_add(1);
         Failed
@@ -74,7 +75,7 @@ impl Faults {
     /// Counts whatever went wrong, for a call that has no answer for out of memory.
     pub(crate) fn counted<T: Drop>(&mut self, done: Result<T, Trouble>) -> Result<T, Failed>
         ensures value { IfOk result (λ value. done ≡ Ok value) }
-        ensures same { OnOk result (self.new.count ≡ self.old.count) }
+        ensures counted { self.new.count ≡ bumped (is_err result) self.old.count }
         ensures cause { IsCaused self.old.count self.new.count result }
     {
         match done {
@@ -86,7 +87,7 @@ impl Faults {
     /// Counts a fault, and passes out of memory on.
     pub(crate) fn told_apart<T: Drop>(&mut self, done: Result<T, Trouble>) -> Result<T, DiskError>
         ensures value { IfOk result (λ value. done ≡ Ok value) }
-        ensures same { OnOk result (self.new.count ≡ self.old.count) }
+        ensures counted { self.new.count ≡ bumped (has_failed result) self.old.count }
         ensures cause { HasCause self.old.count self.new.count result }
     {
         match done {

@@ -2,20 +2,20 @@
 ghost use Rattle.std.specs.Prelude.{◌≡◌, IsTrue, IfOk};
 ghost use Rattle.bk_base.specs.Names.{IsListed};
 
-use crate::errors::OsRefused;
+use crate::errors::{OsRefused, has_too_many_open};
 use crate::faults::Trouble;
+use crate::openings::{Unopened, joined, open_folder, open_regular, options_for, take_lock};
 use crate::outs::OsOut;
+use crate::syncs::{FailedSyncs, sync_once};
 use crate::views::OsView;
 use bk_base::{Kind, Name};
 use bk_disk::Listed;
-use std::alloc::{Alloc, AllocError, Global};
+use std::alloc::{Alloc, Global};
 use std::collections::BTreeMap;
-use std::fs::{File, Files, OpenOptions};
+use std::fs::{File, Files, OpenOptions, ReadDir};
 use std::io::{ErrorKind, Write};
 use std::sync::Arc;
 use std::{fs, io};
-
-const LOCK_FILE: &str = "bitcask.write.lock";
 
 const LAST_FILE_NUMBER: u32 = 4_294_967_294;
 
@@ -35,37 +35,45 @@ pub(crate) struct Folder<R: Files<File = File> + Alloc<A = Global> + Clone + Dro
     path: String,
     /// The folder itself, to sync its entries.
     entries: File,
+    /// Whether a sync of the entries failed.
+    entries_failed: bool,
     /// It belongs to the process as long as this file is open.
     lock: File,
     opened: BTreeMap<Name, Opened>,
+    failed_syncs: FailedSyncs,
 }
 
 impl<R: Files<File = File> + Alloc<A = Global> + Clone + Drop> Folder<R> {
     /// Opens the folder and takes its lock.
     pub(crate) fn open(rt: R, path: &str) -> Result<Folder<R>, OsRefused> {
         let alloc = rt.alloc();
-        let entries = opened_folder(&rt, path)?;
-        let lock_path = joined(alloc, path, LOCK_FILE).map_err(|_| OsRefused::Memory)?;
+        let entries = open_folder(&rt, path)?;
+        let lock = take_lock(&rt, path)?;
         let path = String::from_str(alloc, path).map_err(|_| OsRefused::Memory)?;
-        let lock = taken_lock(&rt, &lock_path)?;
         Ok(Folder {
             rt,
             path,
             entries,
+            entries_failed: false,
             lock,
             opened: BTreeMap::new(alloc),
+            failed_syncs: FailedSyncs::new(alloc),
         })
     }
 
     /// The files of the store, with their lengths. Other names are left out, and so are names that
-    /// are no text.
-    pub(crate) fn list(&self) -> Result<Vec<Listed>, Trouble> {
+    /// are no text. Under a name of the store anything but a regular file is a fault.
+    pub(crate) fn list(&mut self) -> Result<Vec<Listed>, Trouble> {
         let mut files = Vec::new(self.rt.alloc());
-        for entry in fs::read_dir(&self.rt, self.path.as_str()).map_err(trouble_of)? {
+        for entry in self.read_entries().map_err(trouble_of)? {
             match entry {
                 Ok(entry) => {
                     if let Some(name) = Name::read(entry.file_name()) {
-                        let len = fs::metadata(&self.rt, entry.path())?.len();
+                        let metadata = fs::metadata(&self.rt, entry.path())?;
+                        if !metadata.is_file() {
+                            return Err(Trouble::Fault);
+                        }
+                        let len = metadata.len();
                         files.push(Listed { name, len })?;
                     }
                 }
@@ -89,14 +97,16 @@ impl<R: Files<File = File> + Alloc<A = Global> + Clone + Drop> Folder<R> {
 
     pub(crate) fn create(&mut self, name: Name) -> Result<(), Trouble> {
         let path = self.path_of(name)?;
-        let file = options_for(name)
-            .create(true)
-            .open(&self.rt, path.as_str())?;
-        if file.metadata()?.len() > 0 {
+        let mut options = options_for(name);
+        options.create(true);
+        let (file, len) = self.open_held(&options, path.as_str())?;
+        if len > 0 {
             return Err(Trouble::Fault);
         }
-        self.entries.sync_all()?;
-        self.keep(name, file, 0)
+        self.sync_entries()?;
+        // The file is made. Out of memory for its handle, the next call opens it again.
+        let _ = self.keep(name, file, 0);
+        Ok(())
     }
 
     pub(crate) fn append(&mut self, name: Name, piece: &[u8]) -> Result<(), Trouble> {
@@ -112,17 +122,18 @@ impl<R: Files<File = File> + Alloc<A = Global> + Clone + Drop> Folder<R> {
     }
 
     pub(crate) fn sync(&mut self, name: Name) -> Result<(), Trouble> {
-        Ok(self.opened(name)?.file.sync_all()?)
+        let file = Arc::try_clone(&self.opened(name)?.file)?;
+        self.failed_syncs.sync(name, &file)
     }
 
     pub(crate) fn lend(&mut self, name: Name) -> Result<OsOut, Trouble>
         ensures { IfOk result (λ out. out.name ≡ name) }
     {
         let path = self.path_of(name)?;
-        let file = options_for(name)
-            .create_new(true)
-            .open(&self.rt, path.as_str())?;
-        self.entries.sync_all()?;
+        let mut options = options_for(name);
+        options.create_new(true);
+        let (file, _) = self.open_held(&options, path.as_str())?;
+        self.sync_entries()?;
         Ok(OsOut::new(name, file))
     }
 
@@ -135,9 +146,12 @@ impl<R: Files<File = File> + Alloc<A = Global> + Clone + Drop> Folder<R> {
                 // It may stand under its new name already.
                 fs::metadata(&self.rt, new.as_str())?;
             }
-            done => done?,
+            done => {
+                done?;
+                self.failed_syncs.rename(from, to);
+            }
         }
-        Ok(self.entries.sync_all()?)
+        self.sync_entries()
     }
 
     pub(crate) fn remove(&mut self, name: Name) -> Result<(), Trouble> {
@@ -150,23 +164,67 @@ impl<R: Files<File = File> + Alloc<A = Global> + Clone + Drop> Folder<R> {
             Err(error) if error.kind() == ErrorKind::NotFound => {}
             done => done?,
         }
-        Ok(self.entries.sync_all()?)
+        self.failed_syncs.remove(name);
+        self.sync_entries()
+    }
+
+    fn sync_entries(&mut self) -> Result<(), Trouble> {
+        sync_once(&self.entries, &mut self.entries_failed)
     }
 
     /// The file of a name, held open from now on.
     fn opened(&mut self, name: Name) -> Result<&mut Opened, Trouble> {
         if !self.opened.contains_key(&name) {
             let path = self.path_of(name)?;
-            let file = options_for(name).open(&self.rt, path.as_str())?;
-            let len = file.metadata()?.len();
+            let (file, len) = self.open_there(name, path.as_str())?;
             self.keep(name, file, len)?;
         }
         self.opened.get_mut(&name).ok_or(Trouble::Fault)
     }
 
+    /// Opens a file that is there, to be read alone where it may not be written.
+    fn open_there(&mut self, name: Name, path: &str) -> Result<(File, u64), Unopened> {
+        match self.open_held(&options_for(name), path) {
+            Err(unopened) if unopened.for_writing() => {
+                let mut options = OpenOptions::new();
+                options.read(true);
+                self.open_held(&options, path)
+            }
+            done => done,
+        }
+    }
+
+    /// Opens a file. Where too many are open, those that are held go one by one.
+    fn open_held(&mut self, options: &OpenOptions, path: &str) -> Result<(File, u64), Unopened> {
+        for _ in 0..MOST_OPEN {
+            match open_regular(&self.rt, options, path) {
+                Err(unopened) if unopened.for_too_many() && self.let_go() => {}
+                done => return done,
+            }
+        }
+        open_regular(&self.rt, options, path)
+    }
+
+    /// Opens the folder to be listed, in the same way.
+    fn read_entries(&mut self) -> io::Result<ReadDir<R, Global>> {
+        for _ in 0..u64::MAX {
+            match fs::read_dir(&self.rt, self.path.as_str()) {
+                Err(error) if error.kind() == ErrorKind::Interrupted => {}
+                Err(error) if has_too_many_open(error) && self.let_go() => {}
+                done => return done,
+            }
+        }
+        fs::read_dir(&self.rt, self.path.as_str())
+    }
+
+    /// Closes one of the held files, if there is one. The next call on it opens it again.
+    fn let_go(&mut self) -> bool {
+        self.opened.pop_first().is_some()
+    }
+
     fn keep(&mut self, name: Name, file: File, len: u64) -> Result<(), Trouble> {
         if self.opened.len() >= MOST_OPEN {
-            self.opened.pop_first();
+            self.let_go();
         }
         let file = Arc::new(self.rt.alloc(), file)?;
         self.opened.insert(name, Opened { file, len })?;
@@ -202,35 +260,6 @@ fn is_listed(name: Name) -> bool
     match name.kind {
         Kind::Settings => name.id == 0,
         _ => name.id >= 1 && name.id <= LAST_FILE_NUMBER,
-    }
-}
-
-fn joined(alloc: Global, folder: &str, name: &str) -> Result<String, AllocError> {
-    format!(in alloc; "{folder}/{name}")
-}
-
-/// The store never writes the settings, so they may be read-only.
-fn options_for(name: Name) -> OpenOptions {
-    let mut options = OpenOptions::new();
-    options.read(true).append(name.kind != Kind::Settings);
-    options
-}
-
-fn opened_folder<R: Files<File = File>>(rt: &R, path: &str) -> Result<File, OsRefused> {
-    let folder = File::open(rt, path).map_err(|_| OsRefused::Directory)?;
-    match folder.metadata() {
-        Ok(metadata) if metadata.is_dir() => Ok(folder),
-        _ => Err(OsRefused::Directory),
-    }
-}
-
-fn taken_lock<R: Files<File = File>>(rt: &R, path: &str) -> Result<File, OsRefused> {
-    let mut options = OpenOptions::new();
-    options.write(true).create(true);
-    let lock = options.open(rt, path).map_err(|_| OsRefused::Lock)?;
-    match lock.try_lock() {
-        Ok(()) => Ok(lock),
-        Err(_) => Err(OsRefused::Lock),
     }
 }
 

@@ -11,16 +11,18 @@ mod disks;
 mod errors;
 mod faults;
 mod folders;
+mod openings;
 mod outs;
 mod sinks;
 mod sources;
+mod syncs;
 #[cfg(test)]
 mod tests;
 mod views;
 
 pub use clocks::OsClock;
 pub use disks::OsDisk;
-pub use errors::OsRefused;
+pub use errors::{OsRefused, Reason};
 pub use outs::OsOut;
 pub use sinks::OsSink;
 pub use sources::OsSource;

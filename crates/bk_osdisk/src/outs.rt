@@ -2,6 +2,7 @@
 ghost use Rattle.std.specs.Prelude.{◌≡◌};
 
 use crate::faults::{Faults, Trouble};
+use crate::syncs::sync_once;
 use bk_base::Name;
 use bk_disk::{DiskError, Failed, Out};
 use std::fs::File;
@@ -12,6 +13,8 @@ use std::io::Write;
 pub struct OsOut {
     pub(crate) name: Name,
     file: File,
+    /// Whether a sync of the file failed.
+    failed: bool,
     faults: Faults,
 }
 
@@ -22,6 +25,7 @@ impl OsOut {
         OsOut {
             name,
             file,
+            failed: false,
             faults: Faults::none(),
         }
     }
@@ -48,7 +52,7 @@ impl Out for OsOut {
     }
 
     fn sync(&mut self) -> Result<(), Failed> {
-        let done = self.file.sync_all().map_err(Trouble::from);
+        let done = sync_once(&self.file, &mut self.failed);
         self.faults.counted(done)
     }
 }

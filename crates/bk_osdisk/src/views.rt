@@ -50,6 +50,7 @@ impl OsView {
 
 impl View for OsView {
     ghost use Rattle.std.specs.Prelude.{true, false, []};
+    ghost use Rattle.bk_disk.specs.Told.{untold};
 
     ghost tells = { false };
 
@@ -60,6 +61,8 @@ impl View for OsView {
     ghost faults = { λ v. v.faults.count };
 
     ghost fallible = { λ _. true };
+
+    ghost told_rest = { λ _ h. untold h };
 
     fn read(&mut self, into: &mut [u8]) -> Result<usize, Failed> {
         let want = self.left.min(into.len() as u64) as usize;

@@ -1,19 +1,24 @@
 -- What stands at the front is read, and what was read stands there.
-use Rattle.std.proofs.Common.{◌≡◌, ℕ, ◌+◌, ◌^◌, ◌<◌, ◌≤◌, Bool, true, false, cond, eqb, List, ◌∷◌, ◌++◌, length, take, drop, refl, sym, ap, subst, ◌∙◌, append_assoc, arith}
-use Rattle.std.specs.Int.{w16, w32, w64, from_be_bytes, to_be_bytes}
+use Rattle.std.proofs.Common.{◌≡◌, ℕ, ◌+◌, ◌^◌, ◌<◌, ◌≤◌, Bool, true, false, cond, eqb, List, ◌∷◌, ◌++◌, length, take}
+use Rattle.std.proofs.Common.{drop, refl, sym, ap, subst, ◌∙◌, append_assoc, arith}
+use Rattle.std.specs.Int.{w16, w32, w64, to_be_bytes}
 use Rattle.std.proofs.lemmas.Bool.{eqb-true}
 use Rattle.std.proofs.lemmas.Bool.Decides.{nat_tests}
-use Rattle.std.proofs.lemmas.List.{take_at, drop_at, take-append-drop, take-take, drop-drop, length-append, length-take, length-drop, nil_from_length}
+use Rattle.std.proofs.lemmas.List.{take_at, drop_at, take-append-drop, take-take, length-append, length-take, length-drop, nil_from_length}
 use Rattle.bk_base.specs.Bounds.{AreBytes}
+use Rattle.bk_base.specs.declared.limits.TheConstants.{LONGEST_VALUE, TOMBSTONE}
 use Rattle.bk_base.specs.declared.writes.Write.{Write}
 use Rattle.bk_base.specs.declared.writes.Body.{Body}
 use Rattle.bk_base.specs.declared.writes.Body.TheVariants.{Put, Gone}
+use Rattle.bk_base.proofs.Bytes.{AreBytes-drop, AreBytes-take, drop-cut}
+use Rattle.bk_base.proofs.FixedWidth.{from_be_bytes_2-lt, from_be_bytes_4-lt}
+use Rattle.bk_base.proofs.FixedWidth.{to_be_bytes-from_be_bytes_2, to_be_bytes-from_be_bytes_4, to_be_bytes-from_be_bytes_8}
 use Rattle.bk_crc.specs.Crc.{crc_of}
 use Rattle.bk_laws.specs.Record.{IsWritable, FitsBody, RecordStands, checksum_of, covered_of, fields_of, record_of, size_of, value_field, value_of}
 use Rattle.bk_record.specs.declared.header.Header.{Header}
 use Rattle.bk_record.specs.Header.{IsSound, body_in, header_of, said_size, value_length, write_in}
 use Rattle.bk_record.specs.Stops.{computed_of}
-use Rattle.bk_record.proofs.Headers.{AreBytes-drop, AreBytes-take, header_of-record_of, two_front, four_front, eight_front}
+use Rattle.bk_record.proofs.Headers.{header_of-record_of}
 
 -- ---- what stands at the front
 
@@ -22,15 +27,15 @@ unfolding record_of covered_of fields_of
 length-record_of w = omega (arith, length-append w.key (value_of w.body))
 
 length_said : (b : Body) → FitsBody b → value_length (value_field b) ≡ length (value_of b)
-length_said (Put value) fits = let bound : length value ≤ 16777216 = fits.bounds in grind (arith, nat_tests)
+length_said (Put value) fits = let bound : length value ≤ LONGEST_VALUE = fits.bounds in grind (arith, nat_tests)
 length_said Gone fits = refl
 
-length_bound : (b : Body) → FitsBody b → length (value_of b) ≤ 16777216
+length_bound : (b : Body) → FitsBody b → length (value_of b) ≤ LONGEST_VALUE
 length_bound (Put value) fits = fits.bounds
 length_bound Gone fits = omega arith
 
-not_a_tombstone : (n : ℕ) (value : List ℕ) → n ≤ 16777216 → body_in n value ≡ Put value
-not_a_tombstone n value bound = let no : eqb n 4294967295 ≡ false = grind (arith, nat_tests) in rw no refl
+not_a_tombstone : (n : ℕ) (value : List ℕ) → n ≤ LONGEST_VALUE → body_in n value ≡ Put value
+not_a_tombstone n value bound = let no : eqb n TOMBSTONE ≡ false = grind (arith, nat_tests) in rw no refl
 
 body_said : (b : Body) → FitsBody b → body_in (value_field b) (value_of b) ≡ b
 body_said (Put value) fits = not_a_tombstone (length value) value fits.bounds
@@ -59,7 +64,8 @@ unfolding checksum_of
 checksum_is w = refl
 
 -- the write, from a header that says its numbers
-write_again : (h : Header) (w : Write) → FitsBody w.body → h.moment.0 ≡ w.moment.0 → h.ksz ≡ length w.key → h.vsz ≡ value_field w.body → h.seq ≡ w.seq.0 → write_in h (w.key ++ value_of w.body) ≡ w
+write_again : (h : Header) (w : Write) → FitsBody w.body → h.moment.0 ≡ w.moment.0 → h.ksz ≡ length w.key
+    → h.vsz ≡ value_field w.body → h.seq ≡ w.seq.0 → write_in h (w.key ++ value_of w.body) ≡ w
 write_again h w fits moment ksz vsz seq =
     let key : take h.ksz (w.key ++ value_of w.body) ≡ w.key = take_at w.key (value_of w.body) h.ksz (sym ksz) in
     let value : drop h.ksz (w.key ++ value_of w.body) ≡ value_of w.body = drop_at w.key (value_of w.body) h.ksz (sym ksz) in
@@ -99,64 +105,74 @@ one_record bytes v w x y p q = let a = reads bytes v x p in let b = reads bytes 
 abbrev fields_with : ℕ → ℕ → ℕ → ℕ → List ℕ
 fields_with moment ksz vsz seq = to_be_bytes w32 moment ++ to_be_bytes w16 ksz ++ to_be_bytes w32 vsz ++ to_be_bytes w64 seq
 
-cut : (n k : ℕ) (bytes x : List ℕ) → x ≡ take k (drop n bytes) → drop n bytes ≡ x ++ drop (n + k) bytes
-cut n k bytes x e = sym (take-append-drop k (drop n bytes)) ∙ (λ i. sym e i ++ drop-drop k n bytes i)
-
 regroup : (a b c d e r : List ℕ) → a ++ (b ++ (c ++ (d ++ (e ++ r)))) ≡ a ++ ((b ++ c ++ d ++ e) ++ r)
 regroup a b c d e r = simp append_assoc
 
-joined : (bytes a b c d e : List ℕ) → a ≡ take 4 (drop 0 bytes) → b ≡ take 4 (drop 4 bytes) → c ≡ take 2 (drop 8 bytes) → d ≡ take 4 (drop 10 bytes) → e ≡ take 8 (drop 14 bytes) → bytes ≡ a ++ ((b ++ c ++ d ++ e) ++ drop 22 bytes)
+joined : (bytes a b c d e : List ℕ) → a ≡ take 4 (drop 0 bytes) → b ≡ take 4 (drop 4 bytes) → c ≡ take 2 (drop 8 bytes)
+    → d ≡ take 4 (drop 10 bytes) → e ≡ take 8 (drop 14 bytes) → bytes ≡ a ++ ((b ++ c ++ d ++ e) ++ drop 22 bytes)
 joined bytes a b c d e p q r s t =
-    cut 0 4 bytes a p ∙ ap (λ (x : List ℕ). a ++ x) (cut 4 4 bytes b q ∙ ap (λ (x : List ℕ). b ++ x) (cut 8 2 bytes c r ∙ ap (λ (x : List ℕ). c ++ x) (cut 10 4 bytes d s ∙ ap (λ (x : List ℕ). d ++ x) (cut 14 8 bytes e t)))) ∙ regroup a b c d e (drop 22 bytes)
+    drop-cut 0 4 bytes a p
+    ∙ ap (λ (x : List ℕ). a ++ x)
+    (drop-cut 4 4 bytes b q
+    ∙ ap (λ (x : List ℕ). b ++ x)
+    (drop-cut 8 2 bytes c r
+    ∙ ap (λ (x : List ℕ). c ++ x)
+    (drop-cut 10 4 bytes d s ∙ ap (λ (x : List ℕ). d ++ x) (drop-cut 14 8 bytes e t))))
+    ∙ regroup a b c d e (drop 22 bytes)
 
-header_first : (bytes : List ℕ) → AreBytes bytes → 22 ≤ length bytes → bytes ≡ to_be_bytes w32 (header_of bytes).crc ++ (fields_with (header_of bytes).moment.0 (header_of bytes).ksz (header_of bytes).vsz (header_of bytes).seq ++ drop 22 bytes)
+header_first : (bytes : List ℕ) → AreBytes bytes → 22 ≤ length bytes
+    → bytes ≡ to_be_bytes w32 (header_of bytes).crc ++
+    (fields_with (header_of bytes).moment.0 (header_of bytes).ksz (header_of bytes).vsz (header_of bytes).seq ++ drop 22
+    bytes)
 unfolding header_of
 header_first bytes fits long =
-    joined bytes _ _ _ _ _ (four_front bytes (omega arith) fits)
-    (four_front (drop 4 bytes) (omega (arith, length-drop 4 bytes)) (AreBytes-drop 4 bytes fits))
-    (two_front (drop 8 bytes) (omega (arith, length-drop 8 bytes)) (AreBytes-drop 8 bytes fits))
-    (four_front (drop 10 bytes) (omega (arith, length-drop 10 bytes)) (AreBytes-drop 10 bytes fits))
-    (eight_front (drop 14 bytes) (omega (arith, length-drop 14 bytes)) (AreBytes-drop 14 bytes fits))
+    joined bytes _ _ _ _ _ (to_be_bytes-from_be_bytes_4 bytes (omega arith) fits)
+    (to_be_bytes-from_be_bytes_4 (drop 4 bytes) (omega (arith, length-drop 4 bytes)) (AreBytes-drop 4 bytes fits))
+    (to_be_bytes-from_be_bytes_2 (drop 8 bytes) (omega (arith, length-drop 8 bytes)) (AreBytes-drop 8 bytes fits))
+    (to_be_bytes-from_be_bytes_4 (drop 10 bytes) (omega (arith, length-drop 10 bytes)) (AreBytes-drop 10 bytes fits))
+    (to_be_bytes-from_be_bytes_8 (drop 14 bytes) (omega (arith, length-drop 14 bytes)) (AreBytes-drop 14 bytes fits))
 
 -- the parts of a record of this size
 record Parts (bytes front fields : List ℕ) (size : ℕ) : Type 0 where
   pub covered : drop 4 (take size bytes) ≡ fields ++ drop 22 (take size bytes)
   pub whole : bytes ≡ front ++ (fields ++ drop 22 (take size bytes)) ++ drop size bytes
 
-parts : (bytes front fields : List ℕ) (size : ℕ) → length front ≡ 4 → length fields ≡ 18 → 22 ≤ size → bytes ≡ front ++ (fields ++ drop 22 bytes) → Parts bytes front fields size
+parts : (bytes front fields : List ℕ) (size : ℕ) → length front ≡ 4 → length fields ≡ 18 → 22 ≤ size
+    → bytes ≡ front ++ (fields ++ drop 22 bytes) → Parts bytes front fields size
 parts bytes front fields size four eighteen room is =
-    let head : take 22 (take size bytes) ≡ front ++ fields = take-take 22 size bytes room ∙ ap (take 22) (is ∙ sym (append_assoc front fields (drop 22 bytes))) ∙ take_at (front ++ fields) (drop 22 bytes) 22 (omega (arith, length-append front fields)) in
-    let text : take size bytes ≡ front ++ (fields ++ drop 22 (take size bytes)) = sym (take-append-drop 22 (take size bytes)) ∙ ap (λ (x : List ℕ). x ++ drop 22 (take size bytes)) head ∙ append_assoc front fields (drop 22 (take size bytes)) in
+    let head : take 22 (take size bytes) ≡ front ++ fields = take-take 22 size bytes room
+    ∙ ap (take 22) (is ∙ sym (append_assoc front fields (drop 22 bytes)))
+    ∙ take_at (front ++ fields) (drop 22 bytes) 22 (omega (arith, length-append front fields)) in
+    let text : take size bytes ≡ front ++ (fields ++ drop 22 (take size bytes)) =
+    sym (take-append-drop 22 (take size bytes)) ∙ ap (λ (x : List ℕ). x ++ drop 22 (take size bytes)) head
+    ∙ append_assoc front fields (drop 22 (take size bytes)) in
     record {
       covered = ap (drop 4) text ∙ drop_at front (fields ++ drop 22 (take size bytes)) 4 four;
       whole = sym (take-append-drop size bytes) ∙ ap (λ (x : List ℕ). x ++ drop size bytes) text;
     }
 
-body_says_by : (b : Bool) (vsz : ℕ) (value : List ℕ) → eqb vsz 4294967295 ≡ b → length value ≡ cond b 0 vsz → (value_field (cond b Gone (Put value)) ≡ vsz) × (value_of (cond b Gone (Put value)) ≡ value)
-body_says_by true vsz value e len = (sym (eqb-true vsz 4294967295 e), sym (nil_from_length value len))
+body_says_by : (b : Bool) (vsz : ℕ) (value : List ℕ) → eqb vsz TOMBSTONE ≡ b → length value ≡ cond b 0 vsz
+    → (value_field (cond b Gone (Put value)) ≡ vsz) × (value_of (cond b Gone (Put value)) ≡ value)
+body_says_by true vsz value e len = (sym (eqb-true vsz TOMBSTONE e), sym (nil_from_length value len))
 body_says_by false vsz value e len = (len, refl)
 
 body_says : (vsz : ℕ) (value : List ℕ) → length value ≡ value_length vsz → (value_field (body_in vsz value) ≡ vsz) × (value_of (body_in vsz value) ≡ value)
-body_says vsz value len = body_says_by (eqb vsz 4294967295) vsz value refl len
+body_says vsz value len = body_says_by (eqb vsz TOMBSTONE) vsz value refl len
 
-body_fits_by : (b : Bool) (value : List ℕ) → length value ≤ 16777216 → AreBytes value → FitsBody (cond b Gone (Put value))
+body_fits_by : (b : Bool) (value : List ℕ) → length value ≤ LONGEST_VALUE → AreBytes value → FitsBody (cond b Gone (Put value))
 body_fits_by true value bound fits = tt
 body_fits_by false value bound fits = record { bounds = bound; bytes = fits }
 
-four_below : (bytes : List ℕ) → AreBytes bytes → from_be_bytes w32 bytes < 2 ^ 32
-four_below bytes fits = omega (arith, fits 0, fits 1, fits 2, fits 3)
-
-two_below : (bytes : List ℕ) → AreBytes bytes → from_be_bytes w16 bytes < 2 ^ 16
-two_below bytes fits = omega (arith, fits 0, fits 1)
-
 header_below : (bytes : List ℕ) → AreBytes bytes → ((header_of bytes).moment.0 < 2 ^ 32) × ((header_of bytes).ksz < 2 ^ 16)
 unfolding header_of
-header_below bytes fits = (four_below (drop 4 bytes) (AreBytes-drop 4 bytes fits), two_below (drop 8 bytes) (AreBytes-drop 8 bytes fits))
+header_below bytes fits = (from_be_bytes_4-lt (drop 4 bytes) (AreBytes-drop 4 bytes fits), from_be_bytes_2-lt (drop 8 bytes) (AreBytes-drop 8 bytes fits))
 
-covered_is : (w : Write) (m k v s : ℕ) (body : List ℕ) → w.moment.0 ≡ m → length w.key ≡ k → value_field w.body ≡ v → w.seq.0 ≡ s → w.key ++ value_of w.body ≡ body → covered_of w ≡ fields_with m k v s ++ body
+covered_is : (w : Write) (m k v s : ℕ) (body : List ℕ) → w.moment.0 ≡ m → length w.key ≡ k → value_field w.body ≡ v
+    → w.seq.0 ≡ s → w.key ++ value_of w.body ≡ body → covered_of w ≡ fields_with m k v s ++ body
 unfolding covered_of fields_of
 covered_is w m k v s body em ek ev es eb =
-    append_assoc (fields_with w.moment.0 (length w.key) (value_field w.body) w.seq.0) w.key (value_of w.body) ∙ (λ i. fields_with (em i) (ek i) (ev i) (es i) ++ eb i)
+    append_assoc (fields_with w.moment.0 (length w.key) (value_field w.body) w.seq.0) w.key (value_of w.body)
+    ∙ (λ i. fields_with (em i) (ek i) (ev i) (es i) ++ eb i)
 
 record_is : (w : Write) (crc : ℕ) (covered : List ℕ) → checksum_of w ≡ crc → covered_of w ≡ covered → record_of w ≡ to_be_bytes w32 crc ++ covered
 unfolding record_of
@@ -171,7 +187,8 @@ pub record IsRead (bytes : List ℕ) : Type 0 where
   pub size : said_size (header_of bytes) ≡ size_of (read_write bytes)
   pub crc : (header_of bytes).crc ≡ checksum_of (read_write bytes)
 
-pub is_read : (bytes : List ℕ) → AreBytes bytes → 22 ≤ length bytes → said_size (header_of bytes) ≤ length bytes → (header_of bytes).crc ≡ computed_of bytes → IsSound (header_of bytes) → IsRead bytes
+pub is_read : (bytes : List ℕ) → AreBytes bytes → 22 ≤ length bytes → said_size (header_of bytes) ≤ length bytes
+    → (header_of bytes).crc ≡ computed_of bytes → IsSound (header_of bytes) → IsRead bytes
 is_read bytes fits long whole same sound =
     let h = header_of bytes in
     let size = said_size h in
@@ -195,7 +212,7 @@ is_read bytes fits long whole same sound =
           seq = sound.seq;
           moment = below.0;
           key = record { bounds = record { some = rw key_len sound.key; short = omega arith }; bytes = AreBytes-take h.ksz body text_fits };
-          body = body_fits_by (eqb h.vsz 4294967295) (drop h.ksz body) (omega arith) (AreBytes-drop h.ksz body text_fits);
+          body = body_fits_by (eqb h.vsz TOMBSTONE) (drop h.ksz body) (omega arith) (AreBytes-drop h.ksz body text_fits);
         };
         whole = p.whole ∙ ap (λ (x : List ℕ). x ++ drop size bytes) (sym (record_is w h.crc (fields_with h.moment.0 h.ksz h.vsz h.seq ++ body) crc covered));
       };

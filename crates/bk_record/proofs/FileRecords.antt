@@ -10,7 +10,8 @@ pub records-none : (bytes : List ℕ) → NoRecord bytes → AreRecords bytes []
 records-none bytes none = record { fit = tt; held = refl; ended = none }
 
 -- what is left behind the first record
-behind_first : (bytes : List ℕ) (w : Write) (rest : List ℕ) (ws : List Write) → bytes ≡ record_of w ++ rest → drop (length (records_of (w ∷ ws))) bytes ≡ drop (length (records_of ws)) rest
+behind_first : (bytes : List ℕ) (w : Write) (rest : List ℕ) (ws : List Write) → bytes ≡ record_of w ++ rest
+    → drop (length (records_of (w ∷ ws))) bytes ≡ drop (length (records_of ws)) rest
 behind_first bytes w rest ws whole =
     let len : length (record_of w ++ records_of ws) ≡ length (record_of w) + length (records_of ws) = length-append (record_of w) (records_of ws) in
     let first : drop (length (record_of w)) bytes ≡ rest = ap (drop (length (record_of w))) whole ∙ drop_at (record_of w) rest (length (record_of w)) refl in
@@ -22,20 +23,30 @@ records-more bytes w rest ws stands are =
     let left = behind_first bytes w rest ws stands.whole in
     record {
       fit = (stands.fits, are.fit);
-      held = stands.whole ∙ ap (λ (x : List ℕ). record_of w ++ x) are.held ∙ sym (append_assoc (record_of w) (records_of ws) (drop (length (records_of ws)) rest)) ∙ ap (λ (x : List ℕ). (record_of w ++ records_of ws) ++ x) (sym left);
+      held = stands.whole ∙ ap (λ (x : List ℕ). record_of w ++ x) are.held
+          ∙ sym (append_assoc (record_of w) (records_of ws) (drop (length (records_of ws)) rest))
+          ∙ ap (λ (x : List ℕ). (record_of w ++ records_of ws) ++ x) (sym left);
       ended = subst NoRecord (sym left) are.ended;
     }
 
 -- the first record, and those of the rest
-pub records-first : (bytes : List ℕ) (w : Write) (ws : List Write) → AreRecords bytes (w ∷ ws) → RecordStands bytes w (records_of ws ++ drop (length (records_of (w ∷ ws))) bytes)
-records-first bytes w ws are = record { fits = are.fit.0; whole = are.held ∙ append_assoc (record_of w) (records_of ws) (drop (length (records_of (w ∷ ws))) bytes) }
+pub records-first : (bytes : List ℕ) (w : Write) (ws : List Write) → AreRecords bytes (w ∷ ws)
+    → RecordStands bytes w (records_of ws ++ drop (length (records_of (w ∷ ws))) bytes)
+records-first bytes w ws are =
+    record {
+      fits = are.fit.0;
+      whole = are.held
+          ∙ append_assoc (record_of w) (records_of ws) (drop (length (records_of (w ∷ ws))) bytes);
+    }
 
 pub records-rest : (bytes : List ℕ) (w : Write) (rest : List ℕ) (ws : List Write) → AreRecords bytes (w ∷ ws) → bytes ≡ record_of w ++ rest → AreRecords rest ws
 records-rest bytes w rest ws are whole =
     let left = behind_first bytes w rest ws whole in
     record {
       fit = are.fit.1;
-      held = append_cancel_left (record_of w) rest (records_of ws ++ drop (length (records_of ws)) rest) (sym whole ∙ are.held ∙ append_assoc (record_of w) (records_of ws) (drop (length (records_of (w ∷ ws))) bytes) ∙ ap (λ (x : List ℕ). record_of w ++ (records_of ws ++ x)) left);
+      held = append_cancel_left (record_of w) rest (records_of ws ++ drop (length (records_of ws)) rest)
+          (sym whole ∙ are.held ∙ append_assoc (record_of w) (records_of ws) (drop (length (records_of (w ∷ ws))) bytes)
+          ∙ ap (λ (x : List ℕ). record_of w ++ (records_of ws ++ x)) left);
       ended = subst NoRecord left are.ended;
     }
 
@@ -48,12 +59,14 @@ one_list (a ∷ as') (b ∷ bs) bytes p q =
     let x = records-first bytes a as' p in
     let y = records-first bytes b bs q in
     let same = one_record bytes a b _ _ x y in
-    let whole : bytes ≡ record_of b ++ (records_of as' ++ drop (length (records_of (a ∷ as'))) bytes) = x.whole ∙ ap (λ (w : Write). record_of w ++ (records_of as' ++ drop (length (records_of (a ∷ as'))) bytes)) same.0 in
+    let whole : bytes ≡ record_of b ++ (records_of as' ++ drop (length (records_of (a ∷ as'))) bytes) = x.whole
+    ∙ ap (λ (w : Write). record_of w ++ (records_of as' ++ drop (length (records_of (a ∷ as'))) bytes)) same.0 in
     let rest = one_list as' bs _ (records-rest bytes a _ as' p x.whole) (records-rest bytes b _ bs q whole) in
     λ i. same.0 i ∷ rest i
 
 -- a record stands in each front that is long enough
-pub stands-front : (bytes : List ℕ) (w : Write) (rest : List ℕ) (n : ℕ) → RecordStands bytes w rest → size_of w ≤ n → RecordStands (take n bytes) w (drop (size_of w) (take n bytes))
+pub stands-front : (bytes : List ℕ) (w : Write) (rest : List ℕ) (n : ℕ) → RecordStands bytes w rest → size_of w ≤ n
+    → RecordStands (take n bytes) w (drop (size_of w) (take n bytes))
 stands-front bytes w rest n stands room =
     let text : take (size_of w) bytes ≡ record_of w = ap (take (size_of w)) stands.whole ∙ take_at (record_of w) rest (size_of w) (length-record_of w) in
     let front : take (size_of w) (take n bytes) ≡ record_of w = take-take (size_of w) n bytes room ∙ text in

@@ -7,10 +7,14 @@ use Rattle.bk_crc.specs.Crc.{byte_step, crc_at, register_after, start_register}
 use Rattle.bk_laws.specs.Record.{checksum_of, covered_of, fields_of, record_of, value_of}
 
 -- the checksum, made piece by piece
-pub checksum_by_parts : (w : Write) → crc_at (register_after (register_after (register_after start_register (fields_of w)) w.key) (value_of w.body)) ≡ checksum_of w
+pub checksum_by_parts : (w : Write)
+    → crc_at (register_after (register_after (register_after start_register (fields_of w)) w.key) (value_of w.body)) ≡
+    checksum_of w
 unfolding checksum_of covered_of
 checksum_by_parts w =
-    ap crc_at (sym (fold-append byte_step start_register (fields_of w ++ w.key) (value_of w.body) ∙ ap (λ (r : ℕ). register_after r (value_of w.body)) (fold-append byte_step start_register (fields_of w) w.key)))
+    ap crc_at (sym (fold-append byte_step start_register (fields_of w ++ w.key) (value_of w.body)
+    ∙ ap (λ (r : ℕ). register_after r (value_of w.body))
+    (fold-append byte_step start_register (fields_of w) w.key)))
 
 regroup : (o a b c d : List ℕ) → o ++ a ++ b ++ c ++ d ≡ o ++ (a ++ (b ++ c ++ d))
 regroup o a b c d = simp append_assoc

@@ -1,5 +1,6 @@
 -- What `decode` answers, and where each refusal comes.
 use Rattle.std.specs.Prelude.{◌≡◌, ◌≢◌, ℕ, ◌<◌, ◌≤◌, nat_lt, if◌then◌else◌, List, [], length, take, drop}
+use Rattle.bk_base.specs.declared.limits.TheConstants.{CHECKSUM, RECORD_HEADER}
 use Rattle.bk_base.specs.declared.writes.Write.{Write}
 use Rattle.bk_crc.specs.Crc.{crc_of}
 use Rattle.bk_laws.specs.Record.{RecordStands, checksum_of, size_of}
@@ -13,15 +14,15 @@ use Rattle.bk_record.specs.Header.{IsSound, header_of, said_size}
 
 -- how many bytes are needed: those of a header, and then as many as its sizes say
 abbrev pub needed : List ℕ → ℕ
-needed bytes = if nat_lt (length bytes) 22 then 22 else said_size (header_of bytes)
+needed bytes = if nat_lt (length bytes) RECORD_HEADER then RECORD_HEADER else said_size (header_of bytes)
 
 -- the checksum of what stands behind the checksum's field, as far as the sizes say
 abbrev pub computed_of : List ℕ → ℕ
-computed_of bytes = crc_of (drop 4 (take (said_size (header_of bytes)) bytes))
+computed_of bytes = crc_of (drop CHECKSUM (take (said_size (header_of bytes)) bytes))
 
 -- the header at the front of the bytes, and the text that has as many bytes as its sizes say
 pub record IsWhole (bytes : List ℕ) (h : Header) (text : List ℕ) : Type 0 where
-  pub long : 22 ≤ length bytes
+  pub long : RECORD_HEADER ≤ length bytes
   pub header : h ≡ header_of bytes
   pub sizes : said_size (header_of bytes) ≤ length bytes
   pub is_text : text ≡ take (said_size (header_of bytes)) bytes

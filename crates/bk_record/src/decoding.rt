@@ -6,7 +6,8 @@ ghost use Rattle.bk_record.specs.Header.{IsSound, body_in, value_length, write_i
 ghost use Rattle.bk_record.specs.Stops.{IsChecked, IsDecoded, IsKeyDecoded, IsStop, IsWhole, without_value};
 ghost use Rattle.bk_record.specs.declared.decoding.Stop.TheVariants.{Memory as memory_stop};
 
-use crate::header::{CHECKSUM, HEADER, Header, TOMBSTONE};
+use crate::header::Header;
+use bk_base::limits::{CHECKSUM, LONGEST_VALUE, RECORD_HEADER, TOMBSTONE};
 use bk_base::{Body, Key, Memory, Moment, Seq, Value, Write};
 use bk_crc::crc32;
 use std::alloc::Global;
@@ -57,7 +58,7 @@ pub fn decode(alloc: Global, bytes: &[u8]) -> Result<Decoded, Stop>
         MatchResult result (λ d. d.write ≡ w) (λ stop. stop ≡ memory_stop) }
 {
     let (header, record) = checked(bytes)?;
-    match write_of(alloc, &header, &record[HEADER..]) {
+    match write_of(alloc, &header, &record[RECORD_HEADER..]) {
         Ok(write) => Ok(Decoded {
             write,
             size: record.len() as u32,
@@ -76,7 +77,7 @@ pub fn decode_key(alloc: Global, bytes: &[u8]) -> Result<DecodedKey, Stop>
         MatchResult result (λ d. d ≡ without_value w) (λ stop. stop ≡ memory_stop) }
 {
     let (header, record) = checked(bytes)?;
-    match key_of(alloc, &header, &record[HEADER..]) {
+    match key_of(alloc, &header, &record[RECORD_HEADER..]) {
         Ok(key) => Ok(DecodedKey {
             key,
             seq: Seq(header.seq),
@@ -116,7 +117,7 @@ fn whole_record(bytes: &[u8]) -> Result<(Header, &[u8]), Stop>
     if bytes.is_empty() {
         return Err(Stop::End);
     }
-    let Some((front, _rest)) = bytes.split_first_chunk::<HEADER>() else {
+    let Some((front, _rest)) = bytes.split_first_chunk::<RECORD_HEADER>() else {
         return Err(Stop::Short);
     };
     let header = Header::read(front);
@@ -154,7 +155,7 @@ fn key_of(alloc: Global, header: &Header, bytes: &[u8]) -> Result<Key, Memory>
 }
 
 fn body_of(alloc: Global, vsz: u32, value: &[u8]) -> Result<Body, Memory>
-    requires { (length value.now ≡ value_length vsz) × (value_length vsz ≤ 16777216) }
+    requires { (length value.now ≡ value_length vsz) × (value_length vsz ≤ LONGEST_VALUE) }
     ensures { IfOk result (λ body. body ≡ body_in vsz value.now) }
 {
     if vsz == TOMBSTONE {

@@ -2,7 +2,8 @@
 ghost use Rattle.std.specs.Prelude.{◌≡◌, ◌++◌, OnOk, OnErr};
 ghost use Rattle.bk_laws.specs.Record.{IsSeq, IsWritable, record_of, value_of};
 
-use crate::header::{HEADER, fields};
+use crate::header::fields;
+use bk_base::limits::RECORD_HEADER;
 use bk_base::{Body, Memory, Write};
 use bk_crc::Running;
 
@@ -21,7 +22,7 @@ pub fn encode(write: &Write, out: &mut Vec<u8>) -> Result<(), Memory>
     check.add(&fields);
     check.add(key);
     check.add(value);
-    out.reserve(HEADER + key.len() + value.len())?;
+    out.reserve(RECORD_HEADER + key.len() + value.len())?;
     out.extend_from_slice(&check.end().to_be_bytes())?;
     out.extend_from_slice(&fields)?;
     out.extend_from_slice(key)?;

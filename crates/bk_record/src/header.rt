@@ -3,22 +3,10 @@ ghost use Rattle.std.specs.Prelude.{◌≡◌, ◌↔◌, IsTrue};
 ghost use Rattle.bk_laws.specs.Record.{FitsBody, IsSeq, IsWritable, fields_of, value_field};
 ghost use Rattle.bk_record.specs.Header.{IsSound, header_of, said_size, value_length};
 
+use bk_base::limits::{CHECKSUM, LAST_SEQ, LONGEST_VALUE, RECORD_HEADER, TOMBSTONE};
 use bk_base::{Body, Moment, Write};
 
-/// The header's length in bytes.
-pub(crate) const HEADER: usize = 22;
-
-/// How many bytes of a record stand before those that its checksum covers.
-pub(crate) const CHECKSUM: usize = 4;
-
-/// What stands in the place of the value's length where the write is a tombstone.
-pub(crate) const TOMBSTONE: u32 = 0xffff_ffff;
-
-const FIELDS: usize = HEADER - CHECKSUM;
-
-const LONGEST_VALUE: u64 = 16_777_216;
-
-const LAST_SEQ: u64 = 0x7fff_ffff_ffff_ffff;
+const FIELDS: usize = RECORD_HEADER - CHECKSUM;
 
 /// The numbers in the header of a record, whatever they are.
 #[derive(Clone, Copy, Debug, PartialEq, Eq)]
@@ -35,7 +23,7 @@ pub struct Header {
 
 impl Header {
     /// The header in these bytes.
-    pub fn read(bytes: &[u8; HEADER]) -> Header
+    pub fn read(bytes: &[u8; RECORD_HEADER]) -> Header
         ensures { result ≡ header_of bytes.now }
     {
         Header {
@@ -54,7 +42,7 @@ impl Header {
     pub fn size(&self) -> u64
         ensures { result ≡ said_size self.now }
     {
-        HEADER as u64 + u64::from(self.ksz) + self.value_size()
+        RECORD_HEADER as u64 + u64::from(self.ksz) + self.value_size()
     }
 
     /// Whether each field is within its bounds. Where one isn't, no record stands here.
@@ -62,7 +50,7 @@ impl Header {
         ensures { IsTrue result ↔ IsSound self.now }
     {
         let is_seq = self.seq != 0 && self.seq <= LAST_SEQ;
-        is_seq && self.ksz != 0 && self.value_size() <= LONGEST_VALUE
+        is_seq && self.ksz != 0 && self.value_size() <= u64::from(LONGEST_VALUE)
     }
 
     fn value_size(&self) -> u64

@@ -9,5 +9,6 @@ pub mod Splits
 pub mod Glues
 pub mod Closes
 pub mod Turning
-pub mod Pushing
 pub mod Rows
+-- for tests and measurement alone
+pub mod Pushing

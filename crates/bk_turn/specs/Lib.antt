@@ -5,4 +5,5 @@ pub mod Steps
 pub mod Badges
 pub mod Handles
 pub mod Places
+-- for tests and measurement alone
 pub mod Pushes

@@ -1,15 +1,13 @@
 -- A list of numbers as what its pushes leave. The tests and the measurements put such a list under the turn.
-use Rattle.std.specs.Prelude.{◌≡◌, ℕ, false, List, None, map, All}
-use Rattle.bk_base.specs.declared.calls.Call.TheVariants.{Quiet}
-use Rattle.bk_base.specs.declared.calls.Answer.TheVariants.{Done}
+use Rattle.std.specs.Prelude.{◌≡◌, ℕ, List, map, All}
 use Rattle.bk_base.specs.declared.histories.Step.{Step}
+use Rattle.bk_base.specs.Blanks.{blank_step}
 use Rattle.bk_turn.specs.declared.views.View.{View}
 use Rattle.bk_turn.specs.History.{Advances}
-use Rattle.bk_turn.specs.Seats.{blank_snapshot}
 
 -- the push of a number by a caller
 abbrev pub push_step : ℕ → ℕ → Step
-push_step caller number = record { entry = record { caller = caller; call = Quiet; reply = Done }; faults = number; views = 0; outs = 0; at = None; snapshot = blank_snapshot; clean = false }
+push_step caller number = record blank_step { entry = record blank_step.entry { caller = caller }; faults = number }
 
 -- the number that a step pushed
 abbrev pub pushed : Step → ℕ

@@ -3,27 +3,14 @@ use Rattle.std.specs.Prelude.{◌≡◌, ◌==◌, ℕ, ◌+◌, ◌-◌, Bool, 
 use mathlib.Core.List.{IsPrefix}
 use mathlib.Core.Option.{some}
 use lib.ListN.{get_elem?}
-use Rattle.bk_base.specs.declared.calls.Call.TheVariants.{Quiet}
-use Rattle.bk_base.specs.declared.calls.Answer.TheVariants.{Done}
-use Rattle.bk_base.specs.declared.histories.Snapshot.{Snapshot}
-use Rattle.bk_base.specs.declared.histories.Opening.{Opening}
 use Rattle.bk_base.specs.declared.histories.Step.{Step}
+use Rattle.bk_base.specs.Blanks.{blank_opening}
 use Rattle.bk_turn.specs.declared.views.View.{View}
 use Rattle.bk_turn.specs.declared.seats.Note.{Note}
 use Rattle.bk_turn.specs.declared.seats.Seated.{Seated}
 use Rattle.bk_turn.specs.declared.seats.Stage.{Stage}
 use Rattle.bk_turn.specs.declared.seats.Stage.TheVariants.{Fresh, Filling, Idle, Waiting, Holding, Gone}
 use Rattle.bk_turn.specs.History.{own_of, IsApart, longer, opening_view, split_view}
-
--- what stands in until the call that knows better picks its own
-abbrev pub blank_snapshot : Snapshot
-blank_snapshot = record { rows = []; written = []; job = None; last_file = record { 0 = 0 } }
-
-abbrev pub blank_opening : Opening
-blank_opening = record { log = []; folds = []; snapshot = blank_snapshot; settings = record { dead_bytes = 0; max_file = 0; ttl = 0; dead_percent = 0 }; faults = 0; views = 0; outs = 0; whole = false }
-
-abbrev pub blank_step : Step
-blank_step = record { entry = record { caller = 0; call = Quiet; reply = Done }; faults = 0; views = 0; outs = 0; at = None; snapshot = blank_snapshot; clean = false }
 
 -- the note of a seat that has joined nobody
 abbrev pub plain_note : View → Note

@@ -1,5 +1,8 @@
 //! The turn: a lock whose value stands for one growing history. Each holding adds one step to the
 //! history, and a pass carries what its owner has seen of it and which steps are its own.
+//!
+//! `specs/Pushes.antt` and `proofs/Pushing.antt`, a list of numbers under the turn, serve tests and
+//! measurement alone.
 #![tactic(auto)]
 
 mod entering;

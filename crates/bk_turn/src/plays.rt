@@ -1,7 +1,8 @@
 //! What each step on the table tells. These types are for the proofs alone.
 ghost use Rattle.bk_base.specs.declared.histories.Opening.{Opening};
 ghost use Rattle.bk_base.specs.declared.histories.Step.{Step};
-ghost use Rattle.bk_turn.specs.Seats.{blank_opening, blank_step, spent, cut_left, cut_right, joined};
+ghost use Rattle.bk_base.specs.Blanks.{blank_opening, blank_step};
+ghost use Rattle.bk_turn.specs.Seats.{spent, cut_left, cut_right, joined};
 ghost use Rattle.bk_turn.specs.Steps.{begun, filled, drawn, looked, served, compared};
 
 use crate::seats::Seated;

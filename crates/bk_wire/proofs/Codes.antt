@@ -2,10 +2,10 @@
 -- it, what is read is a text, what is cut off can go on to a text, and what is refused stays refused.
 use Rattle.std.proofs.Common.{◌≡◌, ℕ, Bool, true, false, cond, List, [], ◌++◌, ◌⊎◌, Result, Ok, Err, refl, sym, ap, ◌∙◌, subst, inl, inr, append_assoc}
 use Rattle.bk_base.specs.Bounds.{AreBytes}
+use Rattle.bk_base.proofs.Bytes.{AreBytes-back}
 use Rattle.bk_wire.specs.declared.stops.Stop.{Stop}
 use Rattle.bk_wire.specs.declared.stops.Stop.TheVariants.{Short, Bad}
 use Rattle.bk_wire.specs.Reading.{◌>>=◌, or_else}
-use Rattle.bk_wire.proofs.Bytes.{back_bytes}
 
 pub record IsCode {A : Type 0} (text : A → List ℕ) (fits : A → Type 0) (read : List ℕ → Result (A × List ℕ) Stop) : Type 0 where
   pub some : (a : A) × fits a
@@ -52,7 +52,7 @@ module _ {A B : Type 0} (view : A → B) (text1 : B → List ℕ) (fits1 : B →
   joined_whole bytes a rest all e =
       let (x, first, second) = bind_ok (read1 bytes) (λ x. read2 x.0 x.1) (a, rest) e in
       let (fit1, split1) = one.whole bytes x.0 x.1 all first in
-      let (fit2, split2) = (two x.0 fit1).whole x.1 a rest (back_bytes (text1 x.0) x.1 (subst (λ bs. AreBytes bs) split1 all)) second in
+      let (fit2, split2) = (two x.0 fit1).whole x.1 a rest (AreBytes-back (text1 x.0) x.1 (subst (λ bs. AreBytes bs) split1 all)) second in
       let same = tied x.0 a fit2 in
       rw same ((fit1, fit2), split1 ∙ ap (λ r. text1 x.0 ++ r) split2 ∙ sym (append_assoc (text1 x.0) (text2 a) rest))
 
@@ -77,7 +77,7 @@ module _ {A B : Type 0} (view : A → B) (text1 : B → List ℕ) (fits1 : B →
       at_second : (x : B × List ℕ) → read1 bytes ≡ Ok x → read2 x.0 x.1 ≡ Err Short → (a : A) × (more : List ℕ) × (fits1 (view a) × fits2 (view a) a) × (bytes ++ more ≡ text1 (view a) ++ text2 a)
       at_second x first second =
           let (fit1, split1) = one.whole bytes x.0 x.1 all first in
-          let (a, more, fit2, split2) = (two x.0 fit1).short x.1 (back_bytes (text1 x.0) x.1 (subst (λ bs. AreBytes bs) split1 all)) second in
+          let (a, more, fit2, split2) = (two x.0 fit1).short x.1 (AreBytes-back (text1 x.0) x.1 (subst (λ bs. AreBytes bs) split1 all)) second in
           let same = tied x.0 a fit2 in
           (a, more, rw same (fit1, fit2), rw same (ap (λ t. t ++ more) split1 ∙ append_assoc (text1 x.0) x.1 more ∙ ap (λ t. text1 x.0 ++ t) split2))
 
@@ -93,7 +93,7 @@ module _ {A B : Type 0} (view : A → B) (text1 : B → List ℕ) (fits1 : B →
           let (fit1, split1) = one.whole bytes x.0 x.1 all first in
           let whole : bytes ++ more ≡ text1 x.0 ++ (x.1 ++ more) = ap (λ t. t ++ more) split1 ∙ append_assoc (text1 x.0) x.1 more in
           rw (whole, one.again x.0 (x.1 ++ more) fit1)
-          ((two x.0 fit1).stays x.1 more (back_bytes (text1 x.0) x.1 (subst (λ bs. AreBytes bs) split1 all)) second)
+          ((two x.0 fit1).stays x.1 more (AreBytes-back (text1 x.0) x.1 (subst (λ bs. AreBytes bs) split1 all)) second)
 
   joined_some : (a : A) × (fits1 (view a) × fits2 (view a) a)
   joined_some =

@@ -4,9 +4,9 @@ use Rattle.std.proofs.lemmas.Bool.{and_parts, and_from}
 use Rattle.std.proofs.lemmas.List.{take_at, drop_at, length-take-le, length-replicate}
 use Rattle.std.proofs.lemmas.Fmt.{decimal_digit, decimal_step, decimal_by_steps}
 use Rattle.bk_base.specs.Bounds.{AreBytes}
+use Rattle.bk_base.proofs.Bytes.{AreBytes-append, AreBytes-take, AreBytes-zeros}
 use Rattle.bk_wire.specs.declared.stops.Stop.TheVariants.{Short, Bad}
 use Rattle.bk_wire.specs.Reading.{literal_at, goes_on, digits_at, begins, number_at, piece_at}
-use Rattle.bk_wire.proofs.Bytes.{joined_bytes, zeros_bytes, taken_bytes}
 use Rattle.bk_wire.proofs.Codes.{IsCode, chosen, same_found}
 
 literal_whole : (text bytes : List ℕ) (x : Unit {0}) (rest : List ℕ) → literal_at text bytes ≡ Ok (x, rest) → bytes ≡ text ++ rest
@@ -279,14 +279,14 @@ module _ (least most end : ℕ) (small : most < 2 ^ 64) (low : least ≤ 1) (hig
 pub piece_code : (n : ℕ) → IsCode (λ (piece : List ℕ). piece) (λ piece. (length piece ≡ n) × AreBytes piece) (piece_at n)
 unfolding piece_at
 piece_code n = record {
-  some = (replicate n 0, (length-replicate {A = ℕ} n 0, zeros_bytes n));
+  some = (replicate n 0, (length-replicate {A = ℕ} n 0, AreBytes-zeros n));
   whole = λ bytes piece rest all e.
       elim (chosen (ltb (length bytes) n) (Err Short) (Ok (take n bytes, drop n bytes)) (Ok (piece, rest)) e) [
         | inl less ↦ cc
         | inr enough ↦ (
             let same = same_found (take n bytes) piece (drop n bytes) rest enough.1 in
             let room = ltb-false (length bytes) n enough.0 in
-            rw (← same.0) ((length-take-le n bytes room, taken_bytes n bytes all), sym (take-append-drop n bytes) ∙ ap (λ t. take n bytes ++ t) same.1))
+            rw (← same.0) ((length-take-le n bytes room, AreBytes-take n bytes all), sym (take-append-drop n bytes) ∙ ap (λ t. take n bytes ++ t) same.1))
       ];
   again = λ piece rest fit.
       let room = le-ltb (length (piece ++ rest)) n (omega (arith, length-append piece rest, fit.0)) in
@@ -296,7 +296,7 @@ piece_code n = record {
         | inl less ↦ (
             let room = ltb-true (length bytes) n less.0 in
             let more = replicate {A = ℕ} (n - length bytes) 0 in
-            (bytes ++ more, more, (omega (arith, length-append bytes more, length-replicate {A = ℕ} (n - length bytes) 0), joined_bytes bytes more all (zeros_bytes (n - length bytes))), refl))
+            (bytes ++ more, more, (omega (arith, length-append bytes more, length-replicate {A = ℕ} (n - length bytes) 0), AreBytes-append bytes more all (AreBytes-zeros (n - length bytes))), refl))
         | inr enough ↦ cc
       ];
   stays = λ bytes more all e.

@@ -2,6 +2,7 @@
 -- Only the clauses of private functions speak of these; what a caller sees rests on the wire grammar alone.
 use Rattle.std.specs.Prelude.{◌≡◌, ℕ, ◌+◌, ◌-◌, ◌*◌, Bool, cond, ◌&&◌, ◌==◌, nat_lt, nat_le, List, [], ◌∷◌, length, take, drop, codes, Result, Ok, Err}
 use Rattle.std.specs.Char.{is_ascii_digit}
+use Rattle.bk_base.specs.declared.limits.TheConstants.{LONGEST_KEY, LONGEST_VALUE}
 use Rattle.bk_base.specs.declared.requests.Request.{Request}
 use Rattle.bk_base.specs.declared.requests.Request.TheVariants.{Get, Put}
 use Rattle.bk_wire.specs.declared.stops.Stop.{Stop}
@@ -47,7 +48,7 @@ piece_at n bytes = cond (nat_lt (length bytes) n) (Err Short) (Ok (take n bytes,
 unfoldable pub get_at : List ℕ → Result (Request × List ℕ) Stop
 get_at bytes = do
   verb ← literal_at (codes "GET ") bytes
-  len ← number_at 1 65535 10 verb.1
+  len ← number_at 1 LONGEST_KEY 10 verb.1
   key ← piece_at len.0 len.1
   last ← literal_at (10 ∷ []) key.1
   Ok (Get key.0, last.1)
@@ -55,8 +56,8 @@ get_at bytes = do
 unfoldable pub put_at : List ℕ → Result (Request × List ℕ) Stop
 put_at bytes = do
   verb ← literal_at (codes "PUT ") bytes
-  key_len ← number_at 1 65535 32 verb.1
-  value_len ← number_at 0 16777216 10 key_len.1
+  key_len ← number_at 1 LONGEST_KEY 32 verb.1
+  value_len ← number_at 0 LONGEST_VALUE 10 key_len.1
   key ← piece_at key_len.0 value_len.1
   value ← piece_at value_len.0 key.1
   last ← literal_at (10 ∷ []) value.1

@@ -7,6 +7,7 @@ ghost use Rattle.std.specs.Prelude.{◌≡◌, IfOk};
 
 use crate::fields::{literal, number, piece};
 use crate::stops::Stop;
+use bk_base::limits::{LONGEST_KEY, LONGEST_VALUE};
 use bk_base::{Key, Memory, Request, Value};
 use std::alloc::Global;
 
@@ -54,7 +55,7 @@ fn get(bytes: &[u8]) -> Result<(Found<'_>, &[u8]), Stop>
     ensures { Gives (λ x. (request_of x.0, x.1.now)) result (get_at bytes.now) }
 {
     let rest = literal(b"GET ", bytes)?;
-    let (len, rest) = number(1, 65_535, b'\n', rest)?;
+    let (len, rest) = number(1, LONGEST_KEY, b'\n', rest)?;
     let (key, rest) = piece(len, rest)?;
     let rest = literal(b"\n", rest)?;
     Ok((Found::Get(key), rest))
@@ -65,8 +66,8 @@ fn put(bytes: &[u8]) -> Result<(Found<'_>, &[u8]), Stop>
     ensures { Gives (λ x. (request_of x.0, x.1.now)) result (put_at bytes.now) }
 {
     let rest = literal(b"PUT ", bytes)?;
-    let (key_len, rest) = number(1, 65_535, b' ', rest)?;
-    let (value_len, rest) = number(0, 16_777_216, b'\n', rest)?;
+    let (key_len, rest) = number(1, LONGEST_KEY, b' ', rest)?;
+    let (value_len, rest) = number(0, LONGEST_VALUE, b'\n', rest)?;
     let (key, rest) = piece(key_len, rest)?;
     let (value, rest) = piece(value_len, rest)?;
     let rest = literal(b"\n", rest)?;

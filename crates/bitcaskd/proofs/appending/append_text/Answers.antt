@@ -6,13 +6,13 @@ use Rattle.bitcaskd.proofs.appending.append_text.Goals as goal
 
 pub returns-in_err-open_newest-clause-err : goal.returns-in_err-open_newest-clause-err
 returns-in_err-open_newest-clause-err g c = λ tells.
-    let left : LeavesPart (g.D.Disk.told c.args.files.now.disk) c.args.files.now.catalog (g.D.Disk.told c.open_newest.new.files.disk).image c.args.text.now =
+    let left : LeavesPart c.args.files.now.told c.args.files.now.catalog c.open_newest.new.files.told.image c.args.text.now =
     λ s h. left_any s _ _ (c.in_err-open_newest.ensures.err tells s h)
     in on_err _ left
 
 pub returns-in_err-append-clause-err : goal.returns-in_err-append-clause-err
 returns-in_err-append-clause-err g c = λ tells.
-    let left : LeavesPart (g.D.Disk.told c.args.files.now.disk) c.args.files.now.catalog (g.D.Disk.told c.append.new.self.disk).image c.args.text.now =
+    let left : LeavesPart c.args.files.now.told c.args.files.now.catalog c.append.new.self.told.image c.args.text.now =
     λ s h. let part = c.in_err-append.ensures.part tells in
     append_left _ part.0 s _ _ _ _ (c.in_ok-open_newest.ensures.ok tells s h) part.1
     in on_err _ left
@@ -20,7 +20,7 @@ returns-in_err-append-clause-err g c = λ tells.
 pub returns-clause-ok : goal.returns-clause-ok
 returns-clause-ok g c = λ tells s w is h.
     appended_on _ w _ _ _ _ _ _ (c.in_ok-open_newest.ensures.ok tells s h) c.in_ok-append.ensures.ok refl
-    (c.in_ok-append.ensures.appended tells) is (c.in_ok-append.ensures.stands tells)
+    (c.in_ok-append.ensures.appended tells) is (c.in_ok-append.ensures.consistent tells)
 
 pub returns-clause-grows : goal.returns-clause-grows
 returns-clause-grows g c = λ tells s h.
@@ -29,5 +29,5 @@ returns-clause-grows g c = λ tells s h.
 
 pub returns-clause-written : goal.returns-clause-written
 returns-clause-written g c = λ tells s h.
-    written_open _ _ _ _ _ _ c.append.new.self.catalog (c.in_ok-open_newest.ensures.ok tells s h) c.in_ok-append.ensures.ok.last c.in_ok-append.ensures.place
+    written_open _ _ _ _ _ _ _ c.append.new.self.catalog (c.in_ok-open_newest.ensures.ok tells s h) c.in_ok-append.ensures.ok.active c.in_ok-append.ensures.place
     (c.in_ok-append.ensures.appended tells)

@@ -8,15 +8,15 @@ use Rattle.bitcaskd.proofs.talking.talk.Given as goal
 
 abbrev pub invariant-turns : goal.invariant-turns
 invariant-turns g l = record {
-  stands : IsTrue g.D.Disk.tells → Stands (g.D.Disk.told l.store.files.disk) l.store.files.catalog l.store.index;
+  stands : IsTrue g.D.Disk.tells → Stands l.store.files.told l.store.files.catalog l.store.index;
   ready : IsReady l.store.files.catalog l.store.index l.desk.reader l.desk.piece.items;
-  faults : g.D.Disk.faults l.initial.store.files.disk ≤ g.D.Disk.faults l.store.files.disk;
+  faults : l.initial.store.files.faults ≤ l.store.files.faults;
   took : g.S.Source.faults l.initial.source ≤ g.S.Source.faults l.source;
   wrote : g.K.Sink.faults l.initial.sink ≤ g.K.Sink.faults l.sink;
   so_far : (turns : List Exchange) × SoFar (telling g.D.Disk.tells g.S.Source.tells g.K.Sink.tells g.C.Clock.tells)
-      (scene_of (site_of (g.D.Disk.told l.initial.store.files.disk) l.initial.store.files.catalog l.initial.store.index (g.D.Disk.faults l.initial.store.files.disk) (g.D.Disk.fallible_views l.initial.store.files.disk) (g.C.Clock.moments l.initial.clock))
+      (scene_of (site_of l.initial.store.files.told l.initial.store.files.catalog l.initial.store.index l.initial.store.files.faults l.initial.store.files.fallible_views (g.C.Clock.moments l.initial.clock))
       (g.S.Source.whole l.initial.source) (g.S.Source.taken l.initial.source) (g.K.Sink.written l.initial.sink) (g.K.Sink.faults l.initial.sink))
-      (scene_of (site_of (g.D.Disk.told l.store.files.disk) l.store.files.catalog l.store.index (g.D.Disk.faults l.store.files.disk) (g.D.Disk.fallible_views l.store.files.disk) (g.C.Clock.moments l.clock))
+      (scene_of (site_of l.store.files.told l.store.files.catalog l.store.index l.store.files.faults l.store.files.fallible_views (g.C.Clock.moments l.clock))
       (g.S.Source.whole l.source) (g.S.Source.taken l.source) (g.K.Sink.written l.sink) (g.K.Sink.faults l.sink))
       l.desk.reader l.desk.replies.items turns;
 }

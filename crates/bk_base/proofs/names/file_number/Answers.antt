@@ -20,9 +20,9 @@ pub returns-in_err-id-clause-only : goal.returns-in_err-id-clause-only
 returns-in_err-id-clause-only c = λ id fits e.
     absurd (kept_none c.parse.result id c.in_err-id.ensures.value (number_again c.args.text.now c.parse.result id c.parse.ensures.value.0 fits e))
 
-pub returns-then-id-gt-LAST_FILE_NUMBER-clause-only :
-    goal.returns-then-id-gt-LAST_FILE_NUMBER-clause-only
-returns-then-id-gt-LAST_FILE_NUMBER-clause-only c = λ id fits e.
+pub returns-then-id-gt-LAST_FILE-clause-only :
+    goal.returns-then-id-gt-LAST_FILE-clause-only
+returns-then-id-gt-LAST_FILE-clause-only c = λ id fits e.
     let again = number_again c.args.text.now c.parse.result id c.parse.ensures.value.0 fits e in
     let kept = kept_number c.parse.result c.in_ok-id.id c.in_ok-id.ensures.value in
     let same : c.in_ok-id.id ≡ id = cc in
@@ -34,7 +34,7 @@ returns-clause-found c =
     let same = ap (λ bs. get_or bs 0 0) c.as_bytes.ensures.value in
     let kept = kept_number c.parse.result c.in_ok-id.id c.in_ok-id.ensures.value in
     let found = number_found c.args.text.now c.parse.result c.in_ok-id.id c.parse.ensures.value.0 (omega arith) kept in
-    ((found.0, c.if-id-gt-LAST_FILE_NUMBER.false), found.1)
+    ((found.0, c.if-id-gt-LAST_FILE.false), found.1)
 
 pub returns-clause-only : goal.returns-clause-only
 returns-clause-only c = λ id fits e.

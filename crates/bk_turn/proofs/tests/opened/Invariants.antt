@@ -1,4 +1,4 @@
-use Rattle.bk_turn.specs.Seats.{blank_opening}
+use Rattle.bk_base.specs.Blanks.{blank_opening}
 use Rattle.bk_turn.proofs.tests.opened.Given as goal
 
 abbrev pub ghost-new : goal.ghost-new

@@ -20,7 +20,7 @@ returns-in_err-at-clause-err g c = λ tells.
     let w : Write = put_of (next_of c.args.self.now.index) c.args.now c.args.key c.args.value in
     let text_is : c.as_slice.result.now ≡ record_of w =
     text_of _ _ _ w c.as_slice.ensures.value c.in_ok-encode.ensures.ok c.new-text.ensures.items in
-    let refused : PutRefused (g.D.Disk.told c.args.self.now.files.disk) c.args.self.now.files.catalog c.args.self.now.index (g.D.Disk.told c.append_text.new.files.disk) w =
+    let refused : PutRefused c.args.self.now.files.told c.args.self.now.files.catalog c.args.self.now.index c.append_text.new.files.told w =
     λ log h. left_text _ _ _ w text_is (c.in_err-at.ensures.err tells (filed log) (is_on _ _ _ log h))
     in on_err _ refused
 
@@ -66,7 +66,7 @@ returns-clause-ok g c = λ tells log h.
       put-holds _ _ _ _ c.reserve.new.self c.add.new.self log (next_of c.args.self.now.index) c.args.now c.args.key c.args.value
           c.as_slice.result.now c.in_ok-at.at _ held (ap (λ n. n + 1) (sym c.in_ok-reserve.ensures.last)) text_is
           (c.in_ok-at.ensures.ok tells) (c.in_ok-at.ensures.grows tells) (c.in_ok-at.ensures.written tells)
-          refl c.value_len-len.ensures.len
+          c.active_file.ensures c.value_len-len.ensures.len
           (omega (arith, c.len.ensures, c.as_slice.ensures.len, ap length text_is, length-record_of w, c.value_len-len.ensures.len, c.from.ensures))
           c.add.ensures.places c.add.ensures.last,
     )

@@ -1,9 +1,13 @@
-use Rattle.std.proofs.Common.{◌-◌, arith}
+use Rattle.std.proofs.Common.{arith}
 use Rattle.bk_files.specs.Catalog.{with_len}
-use Rattle.bk_files.proofs.RowEdits.{newest_at}
+use Rattle.bk_files.proofs.RowEdits.{edited_at-past, edited_at-set}
 use Rattle.bk_files.proofs.catalog.Catalog.set_len.Goals as goal
 
-pub returns-then-count-gt0-clause-rows : goal.returns-then-count-gt0-clause-rows
-returns-then-count-gt0-clause-rows c =
-    newest_at (with_len c.args.len) c.args.self.now.rows.items (c.len-count.result - 1) c.index_mut-row.result.now
-    (omega (arith, c.len-count.ensures, c.if-count-gt0.true)) c.index_mut-row.ensures.value
+pub returns-then-place-len-clause-rows : goal.returns-then-place-len-clause-rows
+returns-then-place-len-clause-rows c =
+    edited_at-set (with_len c.args.len) c.args.self.now.rows.items c.args.place c.index_mut-row.result.now
+    (omega (arith, c.len.ensures, c.if-place-len.true)) c.index_mut-row.ensures.value
+
+pub returns-else-place-len-clause-rows : goal.returns-else-place-len-clause-rows
+returns-else-place-len-clause-rows c =
+    edited_at-past (with_len c.args.len) c.args.self.now.rows.items c.args.place (omega (arith, c.len.ensures, c.if-place-len.false))

@@ -1,4 +1,7 @@
-use Rattle.std.proofs.Common.{sym, ◌∙◌, arith, refl}
+use Rattle.std.proofs.Common.{sym, ◌∙◌, ap, arith, refl, is_some}
+use Rattle.bk_disk.specs.Told.{at}
+use Rattle.bk_disk.proofs.Files.{removed_shows}
+use Rattle.bk_memdisk.specs.Contents.{Contents}
 use Rattle.bk_memdisk.specs.declared.changes.Change.TheVariants.{Removed}
 use Rattle.bk_memdisk.proofs.Edits
 use Rattle.bk_memdisk.proofs.Listings
@@ -39,3 +42,10 @@ returns-clause-rooms c n other =
     let first = rw c.deref.ensures.value at (found c.args.name c.deref.result.now c.in-Some.index (sym c.find.ensures.place ∙ c.in-Some.is)) in
     let same_rooms = Listings.gone_rooms c.args.name c.self.inside.files.items c.self.inside.journal.items c.push_reserved.new.self.items c.in-Some.index (Removed c.args.name) c.self.invariant.tied first (rw c.reserve.ensures.items at c.push_reserved.ensures.items) refl n other in
     rw (← c.self.view_is, c.remove-file.ensures.items) (omega (arith, same_rooms))
+
+pub returns-clause-undone : goal.returns-clause-undone
+returns-clause-undone c same =
+    let first = rw c.deref.ensures.value at (found c.args.name c.deref.result.now c.in-Some.index (sym c.find.ensures.place ∙ c.in-Some.is)) in
+    let there = Listings.is_there c.args.name c.self.inside.files.items c.in-Some.index first in
+    let was_there = sym (ap (λ (v : Contents). is_some (at v.told.image c.args.name)) c.self.view_is) ∙ there in
+    absurd (removed_shows c.args.name c.args.self.now.told _ was_there (returns-clause-ok c) same)

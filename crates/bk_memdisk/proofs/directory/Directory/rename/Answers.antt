@@ -1,4 +1,8 @@
-use Rattle.std.proofs.Common.{sym, ◌∙◌, arith, refl}
+use Rattle.std.proofs.Common.{◌≡◌, sym, ◌∙◌, ap, subst, arith, refl, true, is_some}
+use Rattle.std.proofs.lemmas.Bool.{true≢false}
+use Rattle.bk_disk.specs.Told.{at}
+use Rattle.bk_disk.proofs.Files.{renamed_shows}
+use Rattle.bk_memdisk.specs.Contents.{Contents}
 use Rattle.bk_memdisk.specs.declared.changes.Change.TheVariants.{Renamed}
 use Rattle.bk_memdisk.proofs.Edits
 use Rattle.bk_memdisk.proofs.Listings
@@ -33,3 +37,16 @@ returns-clause-rooms c n one other =
     let more = rw c.reserve.ensures.items at c.push_reserved.ensures.items in
     let same_rooms = Listings.moved_rooms c.args.from c.args.to c.self.inside.files.items c.self.inside.journal.items c.push_reserved.new.self.items c.in-Some.index c.index_mut-file.result.now c.rename.new.self (Renamed c.args.from c.args.to) c.self.invariant.tied first c.index_mut-file.ensures.value more c.rename.ensures.name c.rename.ensures.fits refl c.rename.ensures.room n one other in
     rw (← c.self.view_is) (omega (arith, same_rooms))
+
+pub returns-clause-already : goal.returns-clause-already
+returns-clause-already c absent =
+    let first = rw c.deref.ensures.value at (found c.args.from c.deref.result.now c.in-Some.index (sym c.find.ensures.place ∙ c.in-Some.is)) in
+    let there = Listings.is_there c.args.from c.self.inside.files.items c.in-Some.index first in
+    absurd (true≢false (sym there ∙ ap (λ (v : Contents). is_some (at v.told.image c.args.from)) c.self.view_is ∙ absent))
+
+pub returns-clause-undone : goal.returns-clause-undone
+returns-clause-undone c same =
+    let first = rw c.deref.ensures.value at (found c.args.from c.deref.result.now c.in-Some.index (sym c.find.ensures.place ∙ c.in-Some.is)) in
+    let there = Listings.is_there c.args.from c.self.inside.files.items c.in-Some.index first in
+    let was_there = sym (ap (λ (v : Contents). is_some (at v.told.image c.args.from)) c.self.view_is) ∙ there in
+    absurd (renamed_shows c.args.from c.args.to c.args.self.now.told _ c.requires was_there (returns-clause-ok c) same)
