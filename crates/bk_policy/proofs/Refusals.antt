@@ -1,5 +1,6 @@
 -- A table is refused for one of its keys alone.
 use Rattle.std.proofs.Common.{◌≡◌, ℕ, ◌≤◌, ℤ, pos, negsuc, Bool, true, false, cond, List, length, Option, Some, None, Result, Ok, Err, IfErr, sym, subst}
+use Rattle.bk_base.specs.declared.limits.TheConstants.{LONGEST_SETTINGS}
 use Rattle.toml.specs.Data.{Data, Members, no_members, member, as_integer}
 use Rattle.bk_policy.specs.declared.settings.Settings.{Settings}
 use Rattle.bk_policy.specs.declared.names.SettingName.{SettingName}
@@ -40,7 +41,7 @@ of_members no_members s = tt
 of_members (member key found rest) s =
     both (after_member s key found) (after_members rest) (of_named s (name_of key) found) (of_members rest)
 
-module _ (text : List ℕ) (short : length text ≤ 65536) (table : Members) (is : IsDocument text table) where
+module _ (text : List ℕ) (short : length text ≤ LONGEST_SETTINGS) (table : Members) (is : IsDocument text table) where
   told : (e : SettingsError) → IsOfKey e → settings_in table ≡ Err e → IsSettingsError text e
   told (TooLong len) of_key says = absurd of_key
   told NotToml of_key says = absurd of_key

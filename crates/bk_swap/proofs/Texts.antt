@@ -2,16 +2,17 @@
 use Rattle.std.proofs.Common.{◌≡◌, ℕ, ◌+◌, ◌-◌, ◌*◌, ◌^◌, ◌<◌, ◌≤◌, false, ltb, List, ◌++◌, length, take, drop, refl, sym, ap, ◌∙◌, append_assoc, arith}
 use Rattle.std.specs.Int.{w32, from_be_bytes, to_be_bytes}
 use Rattle.std.proofs.lemmas.Bool.{le-ltb}
-use Rattle.std.proofs.lemmas.List.{take_at, take_all, drop_at, take-append-drop, drop-drop, length-append, length-take, length-drop}
+use Rattle.std.proofs.lemmas.List.{take_at, take_all, drop_at, drop-drop, length-append, length-take, length-drop}
 use Rattle.std.proofs.lemmas.Nat.{from_be_bytes-to_be_bytes_4}
 use Rattle.bk_base.specs.Bounds.{AreBytes}
+use Rattle.bk_base.proofs.Bytes.{All-from_AreBytes, AreBytes-append, AreBytes-drop, AreBytes-take, drop-cut}
+use Rattle.bk_base.proofs.FixedWidth.{AreBytes-to_be_bytes_4, from_be_bytes_4-lt, to_be_bytes-from_be_bytes_4}
 use Rattle.bk_crc.specs.Crc.{crc_of}
 use Rattle.bk_crc.proofs.Bounds.{crc_of-lt}
 use Rattle.bk_laws.specs.SwapList.{FitsList, IsWhole, SwapList, counted_text, ids_text, lists_text, swap_text}
 use Rattle.bk_swap.specs.Lists.{ids_in, inputs_count, list_in, needed, number_at, outputs_count}
 use Rattle.bk_swap.specs.Stops.{computed_of, stored_of}
-use Rattle.bk_swap.proofs.Bytes.{All-from_AreBytes, AreBytes-append, AreBytes-drop, AreBytes-take, four_bytes}
-use Rattle.bk_swap.proofs.Ids.{AreBytes-ids_text, Says, four_below, four_say, ids_in-text, length-ids_text, says}
+use Rattle.bk_swap.proofs.Ids.{AreBytes-ids_text, Says, ids_in-text, length-ids_text, says}
 
 -- ---- a number where four bytes are
 
@@ -47,7 +48,7 @@ AreBytes-lists_text : (l : SwapList) → AreBytes (lists_text l)
 unfolding lists_text
 AreBytes-lists_text l =
     let counted : (ids : List ℕ) → AreBytes (counted_text ids) =
-    λ ids. AreBytes-append (to_be_bytes w32 (length ids)) (ids_text ids) (four_bytes (length ids)) (AreBytes-ids_text ids) in
+    λ ids. AreBytes-append (to_be_bytes w32 (length ids)) (ids_text ids) (AreBytes-to_be_bytes_4 (length ids)) (AreBytes-ids_text ids) in
     AreBytes-append (counted_text l.inputs) (counted_text l.outputs) (counted l.inputs) (counted l.outputs)
 
 check_below : (l : SwapList) → crc_of (lists_text l) < 2 ^ 32
@@ -121,17 +122,14 @@ one_list bytes k l p q = sym (reads bytes k p).list ∙ (reads bytes l q).list
 
 -- ---- what was read is whole
 
-cut : (n k : ℕ) (bytes x : List ℕ) → x ≡ take k (drop n bytes) → drop n bytes ≡ x ++ drop (n + k) bytes
-cut n k bytes x e = sym (take-append-drop k (drop n bytes)) ∙ (λ i. sym e i ++ drop-drop k n bytes i)
-
 number_at-below : (bytes : List ℕ) (at : ℕ) → AreBytes bytes → at + 4 ≤ length bytes → number_at bytes at < 2 ^ 32
-number_at-below bytes at fits long = rw (number_at-there bytes at long) (four_below (drop at bytes) (AreBytes-drop at bytes fits))
+number_at-below bytes at fits long = rw (number_at-there bytes at long) (from_be_bytes_4-lt (drop at bytes) (AreBytes-drop at bytes fits))
 
 -- the four bytes that say a number
 number_at-says : (bytes : List ℕ) (at : ℕ) → AreBytes bytes → at + 4 ≤ length bytes → to_be_bytes w32 (number_at bytes at) ≡ take 4 (drop at bytes)
 number_at-says bytes at fits long =
     ap (to_be_bytes w32) (number_at-there bytes at long)
-    ∙ four_say (drop at bytes) (omega (arith, length-drop at bytes)) (AreBytes-drop at bytes fits)
+    ∙ to_be_bytes-from_be_bytes_4 (drop at bytes) (omega (arith, length-drop at bytes)) (AreBytes-drop at bytes fits)
 
 -- what stands in bytes that are as many as are needed
 record Stands (bytes : List ℕ) (end : ℕ) : Type 0 where
@@ -156,14 +154,14 @@ stand bytes fits long =
     let d = ids_text l.outputs in
     let e = drop (8 + 4 * n + 4 * m) bytes in
     let place : 4 + 4 * n + 4 ≡ 8 + 4 * n = omega arith in
-    let at_outputs : drop (8 + 4 * n) bytes ≡ d ++ e = cut (8 + 4 * n) (4 * m) bytes d second.text in
+    let at_outputs : drop (8 + 4 * n) bytes ≡ d ++ e = drop-cut (8 + 4 * n) (4 * m) bytes d second.text in
     let at_count : drop (4 + 4 * n) bytes ≡ c ++ (d ++ e) =
-    cut (4 + 4 * n) 4 bytes c (number_at-says bytes (4 + 4 * n) fits (omega (arith, long)))
+    drop-cut (4 + 4 * n) 4 bytes c (number_at-says bytes (4 + 4 * n) fits (omega (arith, long)))
     ∙ ap (λ (k : ℕ). c ++ drop k bytes) place ∙ ap (λ (x : List ℕ). c ++ x) at_outputs in
     let at_inputs : drop 4 bytes ≡ b ++ (c ++ (d ++ e)) =
-    cut 4 (4 * n) bytes b first.text ∙ ap (λ (x : List ℕ). b ++ x) at_count in
+    drop-cut 4 (4 * n) bytes b first.text ∙ ap (λ (x : List ℕ). b ++ x) at_count in
     let whole : bytes ≡ a ++ (b ++ (c ++ (d ++ e))) =
-    cut 0 4 bytes a (number_at-says bytes 0 fits (omega (arith, long))) ∙ ap (λ (x : List ℕ). a ++ x) at_inputs in
+    drop-cut 0 4 bytes a (number_at-says bytes 0 fits (omega (arith, long))) ∙ ap (λ (x : List ℕ). a ++ x) at_inputs in
     let counts : (a ++ b) ++ (c ++ d) ++ e ≡ counted_text l.inputs ++ counted_text l.outputs ++ e =
     λ i. (to_be_bytes w32 (sym first.count i) ++ b) ++ (to_be_bytes w32 (sym second.count i) ++ d) ++ e in
     record {
@@ -186,7 +184,7 @@ is_whole bytes fits long same =
     let covered : take end bytes ≡ lists = ap (take end) whole ∙ take_at lists (drop end bytes) end lists_len in
     let check : to_be_bytes w32 (crc_of lists) ≡ drop end bytes =
     ap (λ (x : List ℕ). to_be_bytes w32 (crc_of x)) (sym covered) ∙ ap (to_be_bytes w32) (sym same)
-    ∙ four_say (drop end bytes) (omega (arith, length-drop end bytes, long)) (AreBytes-drop end bytes fits)
+    ∙ to_be_bytes-from_be_bytes_4 (drop end bytes) (omega (arith, length-drop end bytes, long)) (AreBytes-drop end bytes fits)
     ∙ take_all 4 (drop end bytes) (omega (arith, length-drop end bytes, long)) in
     record { fits = s.fits; is = whole ∙ ap (λ (x : List ℕ). lists ++ x) (sym check) }
 
