@@ -18,20 +18,24 @@ IsOfKey (NotInteger name) = Unit {0}
 IsOfKey (OutOfRange name value) = Unit {0}
 IsOfKey Memory = ⊥
 
-of_value : (s : Settings) (name : SettingName) (b : Bool) (n : ℕ) (z : ℤ) → IfErr (after_value s name (cond b (Ok n) (Err (OutOfRange name z)))) IsOfKey
+of_value : (s : Settings) (name : SettingName) (b : Bool) (n : ℕ) (z : ℤ)
+    → IfErr (after_value s name (cond b (Ok n) (Err (OutOfRange name z)))) IsOfKey
 of_value s name true n z = tt
 of_value s name false n z = tt
 
-of_integer : (s : Settings) (name : SettingName) (o : Option ℤ) → IfErr (after_integer s name o) IsOfKey
+of_integer : (s : Settings) (name : SettingName) (o : Option ℤ)
+    → IfErr (after_integer s name o) IsOfKey
 of_integer s name None = tt
 of_integer s name (Some (pos n)) = of_value s name (is_in_range name n) n (pos n)
 of_integer s name (Some (negsuc n)) = tt
 
-of_named : (s : Settings) (o : Option SettingName) (found : Data) → IfErr (after_named s o found) IsOfKey
+of_named : (s : Settings) (o : Option SettingName) (found : Data)
+    → IfErr (after_named s o found) IsOfKey
 of_named s None found = tt
 of_named s (Some name) found = of_integer s name (as_integer found)
 
-both : (r : Result Settings SettingsError) (next : Settings → Result Settings SettingsError) → IfErr r IsOfKey
+both : (r : Result Settings SettingsError) (next : Settings → Result Settings SettingsError)
+    → IfErr r IsOfKey
     → ((s : Settings) → IfErr (next s) IsOfKey) → IfErr (and_then r next) IsOfKey
 both (Ok s) next first second = second s
 both (Err e) next first second = first
@@ -51,7 +55,8 @@ module _ (text : List ℕ) (short : length text ≤ LONGEST_SETTINGS) (table : M
   told Memory of_key says = short
 
   -- what a table is refused for is why its text is refused
-  pub refused : (r : Result Settings SettingsError) → r ≡ settings_in table → IfErr r (IsSettingsError text)
+  pub refused : (r : Result Settings SettingsError) → r ≡ settings_in table
+      → IfErr r (IsSettingsError text)
   refused (Ok s) says = tt
   refused (Err e) says =
       let P : Result Settings SettingsError → Type 0 = λ r. IfErr r IsOfKey in

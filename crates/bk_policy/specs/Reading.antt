@@ -17,7 +17,8 @@ value_of name (negsuc n) = Err (OutOfRange name (negsuc n))
 
 -- ---- the settings after one member
 
-abbrev pub after_value : Settings → SettingName → Result ℕ SettingsError → Result Settings SettingsError
+abbrev pub after_value : Settings → SettingName → Result ℕ SettingsError
+    → Result Settings SettingsError
 after_value s name (Ok n) = Ok (with_value s name n)
 after_value s name (Err e) = Err e
 
@@ -34,7 +35,8 @@ after_member s key found = after_named s (name_of key) found
 
 -- ---- the settings after all members of a table
 
-abbrev pub and_then : Result Settings SettingsError → (Settings → Result Settings SettingsError) → Result Settings SettingsError
+abbrev pub and_then : Result Settings SettingsError → (Settings → Result Settings SettingsError)
+    → Result Settings SettingsError
 and_then (Ok s) next = next s
 and_then (Err e) next = Err e
 
@@ -53,12 +55,14 @@ IsDocument text table = IsUtf8 text × (parse_document text ≡ Some table)
 
 -- the text isn't too long, and its table says this
 abbrev pub Says : List ℕ → Result Settings SettingsError → Type 0
-Says text answer = (length text ≤ LONGEST_SETTINGS) × (table : Members) × IsDocument text table × (settings_in table ≡ answer)
+Says text answer = (length text ≤ LONGEST_SETTINGS) × (table : Members) × IsDocument text table
+    × (settings_in table ≡ answer)
 
 -- Where each refusal comes.
 abbrev pub IsSettingsError : List ℕ → SettingsError → Type 0
 IsSettingsError text (TooLong len) = (LONGEST_SETTINGS < length text) × (len ≡ length text)
-IsSettingsError text NotToml = (length text ≤ LONGEST_SETTINGS) × ((table : Members) → IsDocument text table → ⊥)
+IsSettingsError text NotToml = (length text ≤ LONGEST_SETTINGS) × ((table : Members)
+    → IsDocument text table → ⊥)
 IsSettingsError text UnknownKey = Says text (Err UnknownKey)
 IsSettingsError text (NotInteger name) = Says text (Err (NotInteger name))
 IsSettingsError text (OutOfRange name value) = Says text (Err (OutOfRange name value))

@@ -11,7 +11,8 @@ use Rattle.bk_swap.specs.Lists.{ids_in}
 
 -- ---- what is read, four bytes at a time
 
-pub ids_in-first : (bytes : List ℕ) → 4 ≤ length bytes → ids_in bytes ≡ from_be_bytes w32 (take 4 bytes) ∷ ids_in (drop 4 bytes)
+pub ids_in-first : (bytes : List ℕ) → 4 ≤ length bytes
+    → ids_in bytes ≡ from_be_bytes w32 (take 4 bytes) ∷ ids_in (drop 4 bytes)
 ids_in-first (a ∷ b ∷ c ∷ d ∷ rest) long = refl
 ids_in-first _ long = absurd (omega arith)
 
@@ -61,4 +62,5 @@ says (suc n) _ fits len = absurd (omega arith)
 
 pub AreBytes-ids_text : (ids : List ℕ) → AreBytes (ids_text ids)
 AreBytes-ids_text [] = λ i. omega arith
-AreBytes-ids_text (id ∷ ids) = AreBytes-append (to_be_bytes w32 id) (ids_text ids) (AreBytes-to_be_bytes_4 id) (AreBytes-ids_text ids)
+AreBytes-ids_text (id ∷ ids) =
+    AreBytes-append (to_be_bytes w32 id) (ids_text ids) (AreBytes-to_be_bytes_4 id) (AreBytes-ids_text ids)

@@ -14,5 +14,6 @@ returns-in_err-take c =
     let e : Entry = (c.in-Some.key.now, c.in-Some.value.now) in
     let iter : c.members.key-iterator ≡ e ∷ c.next.new.self = grind (arith, common_steps) in
     let refused : after_member c.members.settings (string_bytes e.0) (view e.1) ≡ Err c.in_err-take.field-0.0 =
-    ap (λ k. after_member c.members.settings k (view e.1)) (sym c.as_str.ensures.value) ∙ c.in_err-take.ensures.refused in
+    ap (λ k. after_member c.members.settings k (view e.1)) (sym c.as_str.ensures.value)
+    ∙ c.in_err-take.ensures.refused in
     rw (p.1, p.2) (sym (rw (iter, refused) refl) ∙ same)
