@@ -1,5 +1,6 @@
 -- A table is refused for one of its keys alone.
 use Rattle.std.proofs.Common.{◌≡◌, ℕ, ◌≤◌, ℤ, pos, negsuc, Bool, true, false, cond, List, length, Option, Some, None, Result, Ok, Err, IfErr, sym, subst}
+use Rattle.bk_base.specs.declared.limits.TheConstants.{LONGEST_SETTINGS}
 use Rattle.toml.specs.Data.{Data, Members, no_members, member, as_integer}
 use Rattle.bk_policy.specs.declared.settings.Settings.{Settings}
 use Rattle.bk_policy.specs.declared.names.SettingName.{SettingName}
@@ -22,16 +23,19 @@ of_value : (s : Settings) (name : SettingName) (b : Bool) (n : ℕ) (z : ℤ)
 of_value s name true n z = tt
 of_value s name false n z = tt
 
-of_integer : (s : Settings) (name : SettingName) (o : Option ℤ) → IfErr (after_integer s name o) IsOfKey
+of_integer : (s : Settings) (name : SettingName) (o : Option ℤ)
+    → IfErr (after_integer s name o) IsOfKey
 of_integer s name None = tt
 of_integer s name (Some (pos n)) = of_value s name (is_in_range name n) n (pos n)
 of_integer s name (Some (negsuc n)) = tt
 
-of_named : (s : Settings) (o : Option SettingName) (found : Data) → IfErr (after_named s o found) IsOfKey
+of_named : (s : Settings) (o : Option SettingName) (found : Data)
+    → IfErr (after_named s o found) IsOfKey
 of_named s None found = tt
 of_named s (Some name) found = of_integer s name (as_integer found)
 
-both : (r : Result Settings SettingsError) (next : Settings → Result Settings SettingsError) → IfErr r IsOfKey
+both : (r : Result Settings SettingsError) (next : Settings → Result Settings SettingsError)
+    → IfErr r IsOfKey
     → ((s : Settings) → IfErr (next s) IsOfKey) → IfErr (and_then r next) IsOfKey
 both (Ok s) next first second = second s
 both (Err e) next first second = first
@@ -41,7 +45,7 @@ of_members no_members s = tt
 of_members (member key found rest) s =
     both (after_member s key found) (after_members rest) (of_named s (name_of key) found) (of_members rest)
 
-module _ (text : List ℕ) (short : length text ≤ 65536) (table : Members) (is : IsDocument text table) where
+module _ (text : List ℕ) (short : length text ≤ LONGEST_SETTINGS) (table : Members) (is : IsDocument text table) where
   told : (e : SettingsError) → IsOfKey e → settings_in table ≡ Err e → IsSettingsError text e
   told (TooLong len) of_key says = absurd of_key
   told NotToml of_key says = absurd of_key
@@ -51,7 +55,8 @@ module _ (text : List ℕ) (short : length text ≤ 65536) (table : Members) (is
   told Memory of_key says = short
 
   -- what a table is refused for is why its text is refused
-  pub refused : (r : Result Settings SettingsError) → r ≡ settings_in table → IfErr r (IsSettingsError text)
+  pub refused : (r : Result Settings SettingsError) → r ≡ settings_in table
+      → IfErr r (IsSettingsError text)
   refused (Ok s) says = tt
   refused (Err e) says =
       let P : Result Settings SettingsError → Type 0 = λ r. IfErr r IsOfKey in

@@ -11,4 +11,5 @@ dead_in row = row.total - row.live
 -- A sealed file has so many dead bytes, or so large a part of its records is dead.
 abbrev pub IsDue : Settings → Row → Type 0
 IsDue s row = (row.state ≡ Sealed)
-    × ((s.dead_bytes ≤ dead_in row) ⊎ ((0 < row.total) × (s.dead_percent * row.total ≤ dead_in row * 100)))
+    × ((s.dead_bytes ≤ dead_in row) ⊎ ((0 < row.total)
+    × (s.dead_percent * row.total ≤ dead_in row * 100)))

@@ -1,6 +1,7 @@
 -- The settings that a text says, and where each refusal comes. A text is TOML; its members are looked
 -- at in the order of their keys' bytes, and the first that is wrong is told.
 use Rattle.std.specs.Prelude.{◌≡◌, ℕ, ◌<◌, ◌≤◌, ℤ, pos, negsuc, cond, List, length, Option, Some, None, Result, Ok, Err, IsUtf8}
+use Rattle.bk_base.specs.declared.limits.TheConstants.{LONGEST_SETTINGS}
 use Rattle.toml.specs.Data.{Data, Members, no_members, member, as_integer}
 use Rattle.toml.specs.Parse.{parse_document}
 use Rattle.bk_policy.specs.declared.settings.Settings.{Settings}
@@ -16,7 +17,8 @@ value_of name (negsuc n) = Err (OutOfRange name (negsuc n))
 
 -- ---- the settings after one member
 
-abbrev pub after_value : Settings → SettingName → Result ℕ SettingsError → Result Settings SettingsError
+abbrev pub after_value : Settings → SettingName → Result ℕ SettingsError
+    → Result Settings SettingsError
 after_value s name (Ok n) = Ok (with_value s name n)
 after_value s name (Err e) = Err e
 
@@ -53,13 +55,15 @@ IsDocument text table = IsUtf8 text × (parse_document text ≡ Some table)
 
 -- the text isn't too long, and its table says this
 abbrev pub Says : List ℕ → Result Settings SettingsError → Type 0
-Says text answer = (length text ≤ 65536) × (table : Members) × IsDocument text table × (settings_in table ≡ answer)
+Says text answer = (length text ≤ LONGEST_SETTINGS) × (table : Members) × IsDocument text table
+    × (settings_in table ≡ answer)
 
 -- Where each refusal comes.
 abbrev pub IsSettingsError : List ℕ → SettingsError → Type 0
-IsSettingsError text (TooLong len) = (65536 < length text) × (len ≡ length text)
-IsSettingsError text NotToml = (length text ≤ 65536) × ((table : Members) → IsDocument text table → ⊥)
+IsSettingsError text (TooLong len) = (LONGEST_SETTINGS < length text) × (len ≡ length text)
+IsSettingsError text NotToml = (length text ≤ LONGEST_SETTINGS) × ((table : Members)
+    → IsDocument text table → ⊥)
 IsSettingsError text UnknownKey = Says text (Err UnknownKey)
 IsSettingsError text (NotInteger name) = Says text (Err (NotInteger name))
 IsSettingsError text (OutOfRange name value) = Says text (Err (OutOfRange name value))
-IsSettingsError text Memory = length text ≤ 65536
+IsSettingsError text Memory = length text ≤ LONGEST_SETTINGS

@@ -1,5 +1,6 @@
 -- The settings by name: their keys, ranges and defaults.
 use Rattle.std.specs.Prelude.{ℕ, ◌&&◌, nat_le, cond, codes, bytes_eq, List, Bool, Option, Some, None}
+use Rattle.bk_base.specs.declared.limits.TheConstants.{DEFAULT_MAX_FILE}
 use Rattle.bk_policy.specs.declared.settings.Settings.{Settings}
 use Rattle.bk_policy.specs.declared.names.SettingName.{SettingName}
 use Rattle.bk_policy.specs.declared.names.SettingName.TheVariants.{DeadBytes, DeadPercent, MaxFile, Ttl}
@@ -29,7 +30,7 @@ is_in_range name n = nat_le (least name) n && nat_le n (greatest name)
 
 -- what stands where the file names no other value
 abbrev pub defaults : Settings
-defaults = record { max_file = 67108864; ttl = 0; dead_bytes = 33554432; dead_percent = 60 }
+defaults = record { max_file = DEFAULT_MAX_FILE; ttl = 0; dead_bytes = 33554432; dead_percent = 60 }
 
 -- the settings with another value of one
 abbrev pub with_value : Settings → SettingName → ℕ → Settings

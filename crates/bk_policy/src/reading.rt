@@ -6,11 +6,9 @@ ghost use Rattle.bk_policy.specs.Reading.{IsSettingsError, Says, after_member, s
 use crate::errors::SettingsError;
 use crate::names::SettingName;
 use crate::settings::Settings;
+use bk_base::limits::LONGEST_SETTINGS;
 use std::alloc::Global;
 use toml::{Table, Value};
-
-/// How many bytes the text may have.
-const LONGEST: usize = 65_536;
 
 impl Settings {
     /// The settings that the text of a settings file says: TOML of at most 65,536 bytes, whose keys
@@ -19,7 +17,7 @@ impl Settings {
         ensures read { IfOk result (λ settings. Says text.now (Ok settings)) }
         ensures refused { IfErr result (IsSettingsError text.now) }
     {
-        if text.len() > LONGEST {
+        if text.len() > LONGEST_SETTINGS as usize {
             return Err(SettingsError::TooLong {
                 len: text.len() as u64,
             });

@@ -3,6 +3,7 @@ ghost use Rattle.std.specs.Prelude.{◌≡◌, ◌≤◌};
 ghost use Rattle.bk_policy.specs.Settings.{defaults, greatest, with_value};
 
 use crate::names::SettingName;
+use bk_base::limits::DEFAULT_MAX_FILE;
 
 /// The settings of a store.
 #[derive(Clone, Copy, Debug, PartialEq, Eq)]
@@ -24,7 +25,7 @@ impl Settings {
     {
         Settings {
             dead_bytes: 33_554_432,
-            max_file: 67_108_864,
+            max_file: DEFAULT_MAX_FILE,
             ttl: 0,
             dead_percent: 60,
         }

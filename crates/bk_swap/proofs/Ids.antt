@@ -1,12 +1,13 @@
 -- Ids one after the other, and the bytes that say them.
-use Rattle.std.proofs.Common.{◌≡◌, ℕ, zero, suc, ◌*◌, ◌^◌, ◌<◌, ◌≤◌, List, [], ◌∷◌, ◌++◌, length, take, drop, refl, arith}
+use Rattle.std.proofs.Common.{◌≡◌, ℕ, zero, suc, ◌*◌, ◌<◌, ◌≤◌, List, [], ◌∷◌, ◌++◌, length, take, drop, refl, arith}
 use Rattle.std.specs.Int.{w32, from_be_bytes, to_be_bytes}
 use Rattle.std.specs.List.{AllByRecursion}
-use Rattle.std.proofs.lemmas.Nat.{be_bytes_4, from_be_bytes-to_be_bytes_4}
+use Rattle.std.proofs.lemmas.Nat.{from_be_bytes-to_be_bytes_4}
 use Rattle.bk_base.specs.Bounds.{AreBytes}
+use Rattle.bk_base.proofs.Bytes.{AreBytes-append}
+use Rattle.bk_base.proofs.FixedWidth.{AreBytes-to_be_bytes_4, from_be_bytes_4-lt, to_be_bytes-from_be_bytes_4}
 use Rattle.bk_laws.specs.SwapList.{FitsId, ids_text}
 use Rattle.bk_swap.specs.Lists.{ids_in}
-use Rattle.bk_swap.proofs.Bytes.{AreBytes-append, four_bytes}
 
 -- ---- what is read, four bytes at a time
 
@@ -37,24 +38,8 @@ ids_in-text (id ∷ ids) fit =
 
 -- ---- and what was read is said by the bytes
 
-four_fit : (a b c d : ℕ) (rest : List ℕ) → AreBytes (a ∷ b ∷ c ∷ d ∷ rest) → AreBytes (a ∷ b ∷ c ∷ d ∷ [])
-four_fit a b c d rest fits zero = fits 0
-four_fit a b c d rest fits (suc zero) = fits 1
-four_fit a b c d rest fits (suc (suc zero)) = fits 2
-four_fit a b c d rest fits (suc (suc (suc zero))) = fits 3
-four_fit a b c d rest fits (suc (suc (suc (suc i)))) = omega arith
-
 rest_fits : (a b c d : ℕ) (rest : List ℕ) → AreBytes (a ∷ b ∷ c ∷ d ∷ rest) → AreBytes rest
 rest_fits a b c d rest fits i = fits (suc (suc (suc (suc i))))
-
--- the number of four bytes
-pub four_say : (bytes : List ℕ) → 4 ≤ length bytes → AreBytes bytes
-    → to_be_bytes w32 (from_be_bytes w32 bytes) ≡ take 4 bytes
-four_say (a ∷ b ∷ c ∷ d ∷ rest) long fits = be_bytes_4 (a ∷ b ∷ c ∷ d ∷ []) _ refl (four_fit a b c d rest fits) refl
-four_say _ long fits = absurd (omega arith)
-
-pub four_below : (bytes : List ℕ) → AreBytes bytes → from_be_bytes w32 bytes < 2 ^ 32
-four_below bytes fits = omega (arith, fits 0, fits 1, fits 2, fits 3)
 
 -- the ids that so many bytes say
 pub record Says (bytes : List ℕ) (n : ℕ) : Type 0 where
@@ -67,15 +52,15 @@ says zero [] fits len = record { count = refl; text = refl; fit = tt }
 says zero (a ∷ rest) fits len = absurd (omega arith)
 says (suc n) (a ∷ b ∷ c ∷ d ∷ rest) fits len =
     let behind = says n rest (rest_fits a b c d rest fits) (omega arith) in
-    let first = four_say (a ∷ b ∷ c ∷ d ∷ rest) (omega arith) fits in
+    let first = to_be_bytes-from_be_bytes_4 (a ∷ b ∷ c ∷ d ∷ rest) (omega arith) fits in
     record {
       count = omega (arith, behind.count);
       text = λ i. first i ++ behind.text i;
-      fit = (four_below (a ∷ b ∷ c ∷ d ∷ []) (four_fit a b c d rest fits), behind.fit);
+      fit = (from_be_bytes_4-lt (a ∷ b ∷ c ∷ d ∷ rest) fits, behind.fit);
     }
 says (suc n) _ fits len = absurd (omega arith)
 
 pub AreBytes-ids_text : (ids : List ℕ) → AreBytes (ids_text ids)
 AreBytes-ids_text [] = λ i. omega arith
 AreBytes-ids_text (id ∷ ids) =
-    AreBytes-append (to_be_bytes w32 id) (ids_text ids) (four_bytes id) (AreBytes-ids_text ids)
+    AreBytes-append (to_be_bytes w32 id) (ids_text ids) (AreBytes-to_be_bytes_4 id) (AreBytes-ids_text ids)

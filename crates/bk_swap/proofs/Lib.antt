@@ -1,4 +1,3 @@
-pub mod Bytes
 pub mod Ids
 pub mod Stopping
 pub mod Texts

@@ -19,5 +19,6 @@ abbrev pub IsSwapStop : List ℕ → SwapStop → Type 0
 IsSwapStop bytes (Short need have) = (need ≡ needed bytes) × (have ≡ length bytes) × (have < need)
 IsSwapStop bytes (Long need have) = (need ≡ needed bytes) × (have ≡ length bytes) × (need < have)
 IsSwapStop bytes (BadCheck stored computed) =
-    (length bytes ≡ needed bytes) × (stored ≡ stored_of bytes) × (computed ≡ computed_of bytes) × (stored ≢ computed)
+    (length bytes ≡ needed bytes) × (stored ≡ stored_of bytes) × (computed ≡ computed_of bytes)
+    × (stored ≢ computed)
 IsSwapStop bytes Memory = (l : SwapList) × IsWhole bytes l
