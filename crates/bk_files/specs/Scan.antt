@@ -1,6 +1,7 @@
 -- What a scan of a file has, and what it finds.
-use Rattle.std.specs.Prelude.{◌≡◌, ℕ, ◌+◌, ◌≤◌, List, ◌++◌, length, Bool, true, Option, None, Some, Result, IsTrue, IsErrOf}
+use Rattle.std.specs.Prelude.{◌≡◌, ℕ, ◌+◌, ◌-◌, ◌≤◌, List, ◌++◌, length, Bool, true, Option, None, Some, Result, IsTrue, IsErrOf}
 use Rattle.std.specs.List.{AllByRecursion}
+use Rattle.bk_base.specs.declared.limits.TheConstants.{LONGEST_KEY, LONGEST_VALUE, RECORD_HEADER}
 use Rattle.bk_base.specs.declared.numbers.FileId.{FileId}
 use Rattle.bk_base.specs.declared.writes.Write.{Write}
 use Rattle.bk_disk.specs.Causes.{Rose}
@@ -13,11 +14,11 @@ use Rattle.bk_files.specs.declared.scan.ScanError.TheVariants.{Read}
 
 -- how many bytes a record has at most: a header, 65,535 of a key and 16,777,216 of a value
 abbrev pub largest : ℕ
-largest = 16842773
+largest = RECORD_HEADER + LONGEST_KEY + LONGEST_VALUE
 
 -- how many bytes a scan holds at most: a record that isn't whole, and a piece of 65,536
 abbrev pub most_held : ℕ
-most_held = 16908308
+most_held = largest - 1 + 65536
 
 -- a scan of a file
 pub record Scanned : Type 0 where

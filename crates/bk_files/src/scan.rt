@@ -6,6 +6,7 @@ ghost use Rattle.bk_record.specs.Stops.{IsDecoded, IsKeyDecoded};
 ghost use Rattle.bk_files.specs.Scan.{AreFirst, Finds, FindsKey, HasReadCause, IsHopeless, IsNeeded, IsSettled, IsTold, Placed, PlacedKey, file_len, largest};
 ghost use Rattle.bk_files.specs.declared.scan.ScanError.TheVariants.{Memory as no_memory};
 
+use bk_base::limits::RECORD_HEADER;
 use bk_base::{FileId, Key, Memory, Version, Write};
 use bk_disk::{Failed, View};
 use bk_record::{Decoded, DecodedKey, Header, Stop, decode, decode_key};
@@ -13,8 +14,6 @@ use std::alloc::{AllocError, Global};
 use std::marker::Model;
 
 /// The length of a record's header in bytes.
-const HEADER: usize = 22;
-
 /// How many bytes a read asks for at most.
 const PIECE: u64 = 65_536;
 
@@ -335,8 +334,8 @@ fn first_key(alloc: Global, bytes: &[u8]) -> Result<Option<DecodedKey>, Memory>
 fn needed(bytes: &[u8]) -> Option<u64>
     ensures { MatchOption result (IsHopeless bytes.now) (IsNeeded bytes.now) }
 {
-    let Some((front, _rest)) = bytes.split_first_chunk::<HEADER>() else {
-        return Some(HEADER as u64);
+    let Some((front, _rest)) = bytes.split_first_chunk::<RECORD_HEADER>() else {
+        return Some(RECORD_HEADER as u64);
     };
     let header = Header::read(front);
     if header.is_sound() {
