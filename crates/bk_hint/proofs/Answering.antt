@@ -1,14 +1,14 @@
 -- No two verdicts come at the same bytes.
-use Rattle.std.proofs.Common.{◌≡◌, ◌≢◌, ℕ, suc, ◌<◌, ◌≤◌, List, [], ◌∷◌, ◌++◌, length, Option, Some, None, refl, sym, ap, subst, ◌∙◌}
+use Rattle.std.proofs.Common.{◌≡◌, ◌≢◌, ℕ, suc, ◌<◌, ◌≤◌, List, [], ◌∷◌, ◌++◌, length, refl, sym, ap, subst, ◌∙◌}
 use Rattle.std.proofs.Common.{inl, inr, arith}
 use Rattle.std.proofs.lemmas.Bool.{cases_lt}
 use Rattle.std.specs.List.{AllByRecursion}
 use Rattle.bk_crc.specs.Crc.{crc_of}
-use Rattle.bk_laws.specs.Hint.{Hinted, IsGood, IsHint, IsSoundRow, rows_text}
+use Rattle.bk_laws.specs.Hint.{Hinted, IsHint, IsSoundRow, rows_text}
 use Rattle.bk_hint.specs.declared.judging.Verdict.{Verdict}
 use Rattle.bk_hint.specs.declared.judging.Verdict.TheVariants.{NotWhole, BadCheck, LengthDiffers, BadRow, Good}
-use Rattle.bk_hint.specs.Verdicts.{FirstBad, IsFirstBad, IsVerdict, IsWhole}
-use Rattle.bk_hint.proofs.HintTexts.{SameHint, one_hint}
+use Rattle.bk_hint.specs.Verdicts.{IsFirstBad, IsVerdict}
+use Rattle.bk_hint.proofs.HintTexts.{one_hint}
 
 -- the order in which they are tested
 abbrev rank : Verdict → ℕ

@@ -1,17 +1,17 @@
 -- A hint's bytes are its rows and its end mark, and say which.
-use Rattle.std.proofs.Common.{◌≡◌, ℕ, ◌+◌, ◌-◌, ◌^◌, ◌<◌, ◌≤◌, List, [], ◌∷◌, ◌++◌, length, take, drop}
-use Rattle.std.proofs.Common.{Option, refl, sym, ap, subst, ◌∙◌, arith}
+use Rattle.std.proofs.Common.{◌≡◌, ℕ, ◌+◌, ◌-◌, ◌^◌, ◌<◌, ◌≤◌, List, [], ◌++◌, length, take, drop}
+use Rattle.std.proofs.Common.{Option, sym, ap, subst, ◌∙◌, arith}
 use Rattle.std.proofs.lemmas.List.{append-nil, take-append-drop, take_at, drop_at, drop_all}
 use Rattle.std.proofs.lemmas.List.{length-append, length-drop}
 use Rattle.bk_base.specs.Bounds.{AreBytes}
 use Rattle.bk_crc.specs.Crc.{crc_of}
-use Rattle.bk_laws.specs.Hint.{FitsRow, Hinted, IsHint, head_text, mark_text, rows_text}
+use Rattle.bk_laws.specs.Hint.{Hinted, IsHint, head_text, mark_text, rows_text}
 use Rattle.bk_hint.specs.declared.headers.Header.{Header}
 use Rattle.bk_hint.specs.Headers.{IsMark, NoRow, header_of, text_of}
 use Rattle.bk_hint.specs.Verdicts.{AreRows, IsWalked, IsWhole}
 use Rattle.bk_base.proofs.Bytes.{AreBytes-drop}
 use Rattle.bk_hint.proofs.Heads.{head_read, head_says, header_fits, length-head_text}
-use Rattle.bk_hint.proofs.RowTexts.{no_row-mark, no_row-short, same_rows}
+use Rattle.bk_hint.proofs.RowTexts.{no_row-short, same_rows}
 
 -- the header that an end mark is
 abbrev mark_head : ℕ → ℕ → ℕ → Header

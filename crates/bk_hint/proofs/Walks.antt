@@ -1,15 +1,15 @@
 -- A walk over rows: how far it has come.
 use Rattle.std.proofs.Common.{◌≡◌, ℕ, zero, suc, ◌+◌, ◌-◌, ◌<◌, ◌≤◌, List, [], ◌∷◌, ◌++◌, length, take}
-use Rattle.std.proofs.Common.{Bool, true, false, eqb, Option, Some, None, IsTrue, ◌↔◌}
-use Rattle.std.proofs.Common.{refl, sym, ap, subst, ◌∙◌, append_assoc, arith}
+use Rattle.std.proofs.Common.{Bool, true, false, eqb, Option, Some, None, IsTrue}
+use Rattle.std.proofs.Common.{refl, sym, ap, ◌∙◌, append_assoc, arith}
 use Rattle.std.specs.List.{AllByRecursion}
 use Rattle.std.proofs.lemmas.Bool.{eqb-true, false≢true}
 use Rattle.std.proofs.lemmas.List.{append-nil, length-append, nil_from_length, take_at}
 use Rattle.std.proofs.lemmas.List.Sums.{fold-append}
 use Rattle.bk_crc.specs.Crc.{byte_step, crc_of, register_after, start_register}
-use Rattle.bk_laws.specs.Hint.{FitsRow, Hinted, IsSoundRow, row_end, row_text, rows_text}
+use Rattle.bk_laws.specs.Hint.{FitsRow, Hinted, IsSoundRow, row_text, rows_text}
 use Rattle.bk_hint.specs.declared.headers.Header.{Header}
-use Rattle.bk_hint.specs.Headers.{IsFirstRow, IsSoundHeader, NoRow, head_of, row_in, text_of}
+use Rattle.bk_hint.specs.Headers.{IsFirstRow, IsSoundHeader, NoRow, row_in}
 use Rattle.bk_hint.specs.Verdicts.{AreRows, EndsWith, FirstBad, IsFirstBad, IsWalked, first_by}
 use Rattle.bk_hint.proofs.RowTexts.{AllByRecursion-push, length-row_text, no_row-short, rows_text-push, same_rows}
 

@@ -1,4 +1,3 @@
-use Rattle.std.proofs.Common.{arith, ap, ◌∙◌}
 use Rattle.bk_hint.proofs.Walks.{checked, ends-all, shorter_end}
 use Rattle.bk_hint.proofs.judging.check_up_to.Goals as goal
 
