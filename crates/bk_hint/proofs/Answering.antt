@@ -1,50 +1,14 @@
--- Each verdict, from what the walk over the rows found.
-use Rattle.std.proofs.Common.{◌≡◌, ◌≢◌, ℕ, suc, ◌<◌, ◌≤◌, List, [], ◌∷◌, ◌++◌, length, Option, Some, None, refl, sym, ap, subst, ◌∙◌}
+-- No two verdicts come at the same bytes.
+use Rattle.std.proofs.Common.{◌≡◌, ◌≢◌, ℕ, suc, ◌<◌, ◌≤◌, List, [], ◌∷◌, ◌++◌, length, refl, sym, ap, subst, ◌∙◌}
 use Rattle.std.proofs.Common.{inl, inr, arith}
 use Rattle.std.proofs.lemmas.Bool.{cases_lt}
 use Rattle.std.specs.List.{AllByRecursion}
 use Rattle.bk_crc.specs.Crc.{crc_of}
-use Rattle.bk_laws.specs.Hint.{Hinted, IsGood, IsHint, IsSoundRow, rows_text}
+use Rattle.bk_laws.specs.Hint.{Hinted, IsHint, IsSoundRow, rows_text}
 use Rattle.bk_hint.specs.declared.judging.Verdict.{Verdict}
 use Rattle.bk_hint.specs.declared.judging.Verdict.TheVariants.{NotWhole, BadCheck, LengthDiffers, BadRow, Good}
-use Rattle.bk_hint.specs.Verdicts.{FirstBad, IsFirstBad, IsVerdict, IsWhole}
-use Rattle.bk_hint.proofs.HintTexts.{SameHint, one_hint}
-
-module _ (bytes front : List ℕ) (covered crc count : ℕ) (bad : Option ℕ) (len computed : ℕ)
-    (whole : IsWhole bytes front covered crc count bad) (is : computed ≡ crc_of front) where
-  check_of_rows : computed ≡ crc_of (rows_text whole.rows)
-  check_of_rows = is ∙ ap crc_of whole.text
-
-  pub bad_check : crc ≢ computed → IsVerdict bytes len (BadCheck crc computed)
-  bad_check differs = (covered, whole.rows, whole.hint, check_of_rows, differs)
-
-  checked : crc ≡ computed → IsHint bytes covered whole.rows (crc_of (rows_text whole.rows))
-  checked same = subst (λ (n : ℕ). IsHint bytes covered whole.rows n) (same ∙ check_of_rows) whole.hint
-
-  pub length_differs : crc ≡ computed → len < covered → IsVerdict bytes len (LengthDiffers covered len)
-  length_differs same longer = (whole.rows, checked same, refl, longer)
-
-  pub bad_row : (n : ℕ) → crc ≡ computed → covered ≤ len → bad ≡ Some n → IsVerdict bytes len (BadRow n)
-  bad_row n same within is_bad = (
-    covered,
-    whole.rows,
-    checked same,
-    within,
-    subst (λ (b : Option ℕ). FirstBad covered whole.rows b) is_bad whole.walked.first,
-  )
-
-  pub good : crc ≡ computed → covered ≤ len → bad ≡ None → IsVerdict bytes len (Good covered count)
-  good same within none = (
-    whole.rows,
-    record {
-      hint = checked same;
-      within = within;
-      sound = subst (λ (b : Option ℕ). FirstBad covered whole.rows b) none whole.walked.first;
-    },
-    whole.walked.number,
-  )
-
--- ---- no two verdicts come at the same bytes
+use Rattle.bk_hint.specs.Verdicts.{IsFirstBad, IsVerdict}
+use Rattle.bk_hint.proofs.HintTexts.{one_hint}
 
 -- the order in which they are tested
 abbrev rank : Verdict → ℕ

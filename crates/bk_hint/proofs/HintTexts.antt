@@ -1,16 +1,17 @@
 -- A hint's bytes are its rows and its end mark, and say which.
-use Rattle.std.proofs.Common.{◌≡◌, ℕ, ◌+◌, ◌-◌, ◌^◌, ◌<◌, ◌≤◌, List, [], ◌∷◌, ◌++◌, length, take, drop}
-use Rattle.std.proofs.Common.{Option, refl, sym, ap, subst, ◌∙◌, arith}
+use Rattle.std.proofs.Common.{◌≡◌, ℕ, ◌+◌, ◌-◌, ◌^◌, ◌<◌, ◌≤◌, List, [], ◌++◌, length, take, drop}
+use Rattle.std.proofs.Common.{Option, sym, ap, subst, ◌∙◌, arith}
 use Rattle.std.proofs.lemmas.List.{append-nil, take-append-drop, take_at, drop_at, drop_all}
 use Rattle.std.proofs.lemmas.List.{length-append, length-drop}
 use Rattle.bk_base.specs.Bounds.{AreBytes}
-use Rattle.bk_laws.specs.Hint.{FitsRow, Hinted, IsHint, head_text, mark_text, rows_text}
+use Rattle.bk_crc.specs.Crc.{crc_of}
+use Rattle.bk_laws.specs.Hint.{Hinted, IsHint, head_text, mark_text, rows_text}
 use Rattle.bk_hint.specs.declared.headers.Header.{Header}
 use Rattle.bk_hint.specs.Headers.{IsMark, NoRow, header_of, text_of}
 use Rattle.bk_hint.specs.Verdicts.{AreRows, IsWalked, IsWhole}
 use Rattle.bk_base.proofs.Bytes.{AreBytes-drop}
 use Rattle.bk_hint.proofs.Heads.{head_read, head_says, header_fits, length-head_text}
-use Rattle.bk_hint.proofs.RowTexts.{no_row-mark, no_row-short, same_rows}
+use Rattle.bk_hint.proofs.RowTexts.{no_row-short, same_rows}
 
 -- the header that an end mark is
 abbrev mark_head : ℕ → ℕ → ℕ → Header
@@ -131,10 +132,10 @@ module _ (bytes front mark : List ℕ) (h : Header) (front_is : front ≡ take (
       none (subst (λ (x : Header). IsMark count x) (sym read_is) (rw number
       (has_mark bytes covered rows found crc hint (subst (λ (x : List ℕ). AreRows x found) front_is are))))
 
-  pub found_whole : (count : ℕ) (bad : Option ℕ) (rows : List Hinted) → AreBytes bytes → 30 ≤ length bytes
-      → count < 2 ^ 64 → AreRows front rows → IsWalked h.at rows count bad → IsMark count h
-      → IsWhole bytes front h.at h.crc count bad
-  found_whole count bad rows fits long few are walked is =
+  pub found_whole : (count computed : ℕ) (bad : Option ℕ) (rows : List Hinted) → AreBytes bytes
+      → 30 ≤ length bytes → count < 2 ^ 64 → AreRows front rows → IsWalked h.at rows count bad
+      → computed ≡ crc_of front → IsMark count h → IsWhole bytes h.at h.crc computed count bad
+  found_whole count computed bad rows fits long few are walked check is =
       let marked : IsMark (length rows) (header_of (drop (length bytes - 30) bytes)) =
       subst (λ (x : Header). IsMark (length rows) x) read_is (subst (λ (n : ℕ). IsMark n h) walked.number is) in
       let fewer : length rows < 2 ^ 64 = omega (arith, walked.number) in
@@ -142,7 +143,7 @@ module _ (bytes front mark : List ℕ) (h : Header) (front_is : front ≡ take (
       record {
         rows = rows;
         hint = subst (λ (x : Header). IsHint bytes x.at rows x.crc) (sym read_is) hint;
-        text = are.whole;
+        check = check ∙ ap crc_of are.whole;
         walked = walked;
       }
 

@@ -1,17 +1,16 @@
 -- What was written is read again.
-use Rattle.std.proofs.Common.{◌≡◌, ℕ, ◌+◌, ◌-◌, ◌^◌, ◌<◌, ◌≤◌, Bool, true, false, cond, eqb, List, [], ◌∷◌, ◌++◌, length}
-use Rattle.std.proofs.Common.{refl, sym, ap, ◌∙◌, arith}
+use Rattle.std.proofs.Common.{◌≡◌, ℕ, ◌+◌, ◌-◌, ◌^◌, ◌<◌, ◌≤◌, Bool, true, false, cond, eqb, List, [], ◌∷◌, length}
+use Rattle.std.proofs.Common.{refl, ap, ◌∙◌, arith}
 use Rattle.std.specs.List.{AllByRecursion}
 use Rattle.std.proofs.lemmas.Bool.Decides.{nat_tests}
 use Rattle.std.proofs.lemmas.List.{length-append}
 use Rattle.bk_base.specs.Bounds.{AreBytes}
 use Rattle.bk_base.specs.declared.limits.TheConstants.{LONGEST_VALUE, RECORD_HEADER, TOMBSTONE}
 use Rattle.bk_base.specs.declared.numbers.FileId.{FileId}
-use Rattle.bk_base.specs.declared.writes.Version.{Version}
 use Rattle.bk_base.specs.declared.writes.Write.{Write}
 use Rattle.bk_crc.specs.Crc.{crc_of}
 use Rattle.bk_crc.proofs.Bounds.{crc_of-lt}
-use Rattle.bk_laws.specs.Hint.{FitsRow, Hinted, IsGood, IsHint, IsSoundRow, RowsLeft, head_text, hint_text}
+use Rattle.bk_laws.specs.Hint.{FitsRow, Hinted, IsGood, IsSoundRow, RowsLeft, hint_text}
 use Rattle.bk_laws.specs.Hint.{row_from, row_text, rows_from, rows_text, text_with, told_by, version_in}
 use Rattle.bk_laws.specs.Version.{placed_from, version_at}
 use Rattle.bk_laws.specs.Record.{is_tombstone_field, value_length}

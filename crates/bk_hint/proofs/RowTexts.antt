@@ -1,10 +1,10 @@
 -- A row that stands at the front of bytes is read, and what was read stands there. So bytes begin with
 -- at most one row, and with at most one list of rows.
-use Rattle.std.proofs.Common.{◌≡◌, ℕ, ◌+◌, ◌^◌, ◌<◌, ◌≤◌, List, [], ◌∷◌, ◌++◌, length, take, drop}
-use Rattle.std.proofs.Common.{refl, sym, ap, subst, ◌∙◌, append_assoc, arith}
+use Rattle.std.proofs.Common.{◌≡◌, ℕ, ◌+◌, ◌<◌, ◌≤◌, List, [], ◌∷◌, ◌++◌, length, take, drop}
+use Rattle.std.proofs.Common.{refl, sym, ap, ◌∙◌, append_assoc, arith}
 use Rattle.std.specs.List.{AllByRecursion}
 use Rattle.std.proofs.lemmas.List.{append-nil, take-append-drop, take_at, drop_at, length-drop, length-append, length-take}
-use Rattle.bk_base.specs.Bounds.{AreBytes, IsKey}
+use Rattle.bk_base.specs.Bounds.{AreBytes}
 use Rattle.bk_laws.specs.Hint.{FitsRow, Hinted, head_text, mark_text, row_text, rows_text}
 use Rattle.bk_hint.specs.declared.headers.Header.{Header}
 use Rattle.bk_hint.specs.Headers.{IsFirstRow, NoRow, RowStands, head_of, header_of, row_in, text_of}

@@ -1,14 +1,16 @@
 -- A walk over rows: how far it has come.
-use Rattle.std.proofs.Common.{◌≡◌, ℕ, zero, suc, ◌+◌, ◌<◌, ◌≤◌, List, [], ◌∷◌, ◌++◌, length}
-use Rattle.std.proofs.Common.{Bool, true, false, eqb, Option, Some, None, IsTrue, ◌↔◌}
-use Rattle.std.proofs.Common.{refl, sym, ap, subst, ◌∙◌, append_assoc, arith}
+use Rattle.std.proofs.Common.{◌≡◌, ℕ, zero, suc, ◌+◌, ◌-◌, ◌<◌, ◌≤◌, List, [], ◌∷◌, ◌++◌, length, take}
+use Rattle.std.proofs.Common.{Bool, true, false, eqb, Option, Some, None, IsTrue}
+use Rattle.std.proofs.Common.{refl, sym, ap, ◌∙◌, append_assoc, arith}
 use Rattle.std.specs.List.{AllByRecursion}
 use Rattle.std.proofs.lemmas.Bool.{eqb-true, false≢true}
-use Rattle.std.proofs.lemmas.List.{append-nil, length-append, nil_from_length}
-use Rattle.bk_laws.specs.Hint.{FitsRow, Hinted, IsSoundRow, row_end, row_text, rows_text}
+use Rattle.std.proofs.lemmas.List.{append-nil, length-append, nil_from_length, take_at}
+use Rattle.std.proofs.lemmas.List.Sums.{fold-append}
+use Rattle.bk_crc.specs.Crc.{byte_step, crc_of, register_after, start_register}
+use Rattle.bk_laws.specs.Hint.{FitsRow, Hinted, IsSoundRow, row_text, rows_text}
 use Rattle.bk_hint.specs.declared.headers.Header.{Header}
-use Rattle.bk_hint.specs.Headers.{IsFirstRow, IsSoundHeader, NoRow, head_of, row_in, text_of}
-use Rattle.bk_hint.specs.Verdicts.{AreRows, FirstBad, IsFirstBad, IsWalked, first_by}
+use Rattle.bk_hint.specs.Headers.{IsFirstRow, IsSoundHeader, NoRow, row_in}
+use Rattle.bk_hint.specs.Verdicts.{AreRows, EndsWith, FirstBad, IsFirstBad, IsWalked, first_by}
 use Rattle.bk_hint.proofs.RowTexts.{AllByRecursion-push, length-row_text, no_row-short, rows_text-push, same_rows}
 
 -- the bytes are some rows, each of them walked over, and what is left
@@ -112,10 +114,10 @@ passed-lost bytes left covered count bad passed none some rows are =
     passed.text (are.whole ∙ sym (append-nil (rows_text rows))) in
     omega (arith, ap length same.1)
 
-pub passed-all : (bytes left : List ℕ) (covered count : ℕ) (bad : Option ℕ)
-    → Passed bytes left covered count bad → length left ≡ 0
-    → (rows : List Hinted) × AreRows bytes rows × IsWalked covered rows count bad
-passed-all bytes left covered count bad passed none =
+pub passed-all : (bytes left : List ℕ) (covered count crc : ℕ) (bad : Option ℕ)
+    → Passed bytes left covered count bad → length left ≡ 0 → crc ≡ crc_of bytes
+    → (rows : List Hinted) × AreRows bytes rows × IsWalked covered rows count bad × (crc ≡ crc_of bytes)
+passed-all bytes left covered count crc bad passed none check =
     let empty : left ≡ [] = nil_from_length left none in (
       passed.rows,
       record {
@@ -124,6 +126,7 @@ passed-all bytes left covered count bad passed none =
             ∙ append-nil (rows_text passed.rows);
       },
       passed.walked,
+      check,
     )
 
 -- ---- a step of the walk
@@ -144,3 +147,40 @@ some_left (suc n) is = omega arith
 
 pub none_left : (n : ℕ) → true ≡ eqb n 0 → n ≡ 0
 none_left n is = eqb-true n 0 (sym is)
+
+-- ---- the checksum, which follows the walk
+
+pub ends-all : (bytes : List ℕ) → EndsWith bytes bytes
+ends-all bytes = record { front = []; whole = refl }
+
+-- a row further
+pub ends-more : (unchecked left rest : List ℕ) (h : Header) (key : List ℕ) → EndsWith unchecked left
+    → IsFirstRow left h key rest → EndsWith unchecked rest
+ends-more unchecked left rest h key ends first = record {
+  front = ends.front ++ row_text (row_in h key);
+  whole = ends.whole ∙ ap (λ (x : List ℕ). ends.front ++ x) first.stands.whole
+      ∙ sym (append_assoc ends.front (row_text (row_in h key)) rest);
+}
+
+-- the front is checked
+pub checked : (register : ℕ) (unchecked left : List ℕ) → EndsWith unchecked left
+    → register_after (register_after register (take (length unchecked - length left) unchecked)) left
+    ≡ register_after register unchecked
+checked register unchecked left ends =
+    let size : length unchecked ≡ length ends.front + length left =
+    ap length ends.whole ∙ length-append ends.front left in
+    let place : length ends.front ≡ length unchecked - length left = omega (arith, size) in
+    let front : take (length unchecked - length left) unchecked ≡ ends.front =
+    ap (take (length unchecked - length left)) ends.whole
+    ∙ take_at ends.front left (length unchecked - length left) place in
+    ap (λ (x : List ℕ). register_after (register_after register x) left) front
+    ∙ sym (fold-append byte_step register ends.front left) ∙ ap (register_after register) (sym ends.whole)
+
+pub shorter_end : (unchecked left : List ℕ) → EndsWith unchecked left → length left ≤ length unchecked
+shorter_end unchecked left ends = omega (arith, ap length ends.whole, length-append ends.front left)
+
+-- how far a walk and its checksum have come
+pub record Walking (bytes left unchecked : List ℕ) (covered count : ℕ) (bad : Option ℕ) (register : ℕ) : Type 0 where
+  pub passed : Passed bytes left covered count bad
+  pub ends : EndsWith unchecked left
+  pub check : register_after register unchecked ≡ register_after start_register bytes

@@ -1,5 +1,5 @@
 -- What a writer and a reader of hints have come to.
-use Rattle.std.specs.Prelude.{◌≡◌, ℕ, ◌+◌, ◌*◌, ◌-◌, ◌^◌, ◌<◌, ◌≤◌, ◌==◌, if◌then◌else◌, Bool, true, List, [], ◌∷◌, length, Option, Some, None}
+use Rattle.std.specs.Prelude.{◌≡◌, ℕ, ◌+◌, ◌-◌, ◌^◌, ◌<◌, ◌≤◌, if◌then◌else◌, true, List, [], ◌∷◌, length, Option, Some, None}
 use Rattle.bk_base.specs.declared.limits.TheConstants.{HINT_HEADER, LONGEST_VALUE, RECORD_HEADER, TOMBSTONE}
 use Rattle.bk_base.specs.declared.numbers.FileId.{FileId}
 use Rattle.bk_base.specs.declared.writes.Version.{Version}

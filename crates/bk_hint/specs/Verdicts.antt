@@ -52,9 +52,15 @@ pub record IsWalked (covered : ℕ) (rows : List Hinted) (count : ℕ) (bad : Op
   pub number : count ≡ length rows
   pub first : FirstBad covered rows bad
 
--- What a walk found in whole bytes: the rows before the mark's header, and the first that isn't sound.
-pub record IsWhole (bytes front : List ℕ) (covered crc count : ℕ) (bad : Option ℕ) : Type 0 where
+-- What a walk found in whole bytes: the checksum of the rows, how many they are, and the first that
+-- isn't sound; covered and stored are the mark's.
+pub record IsWhole (bytes : List ℕ) (covered stored computed count : ℕ) (bad : Option ℕ) : Type 0 where
   pub rows : List Hinted
-  pub hint : IsHint bytes covered rows crc
-  pub text : front ≡ rows_text rows
+  pub hint : IsHint bytes covered rows stored
+  pub check : computed ≡ crc_of (rows_text rows)
   pub walked : IsWalked covered rows count bad
+
+-- the bytes end with those that are left
+pub record EndsWith (bytes left : List ℕ) : Type 0 where
+  pub front : List ℕ
+  pub whole : bytes ≡ front ++ left

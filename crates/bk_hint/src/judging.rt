@@ -1,12 +1,15 @@
 //! Whether a hint can be used.
 ghost use Rattle.std.specs.Prelude.{◌≡◌, ℕ, List, MatchOption};
 ghost use Rattle.bk_laws.specs.Hint.{Hinted, IsHint};
-ghost use Rattle.bk_hint.specs.Verdicts.{AreRows, IsVerdict, IsWalked, IsWhole, first_by};
+ghost use Rattle.bk_crc.specs.Crc.{crc_of, register_after};
+ghost use Rattle.bk_hint.specs.Verdicts.{AreRows, EndsWith, IsVerdict, IsWalked, IsWhole, first_by};
 
 use crate::headers::Header;
 use crate::rows::next_row;
 use bk_base::limits::HINT_HEADER;
-use bk_crc::crc32;
+use bk_crc::Running;
+
+const PIECE: usize = 4096;
 
 /// What a hint's bytes are. The causes are tested in this order.
 #[derive(Clone, Copy, Debug, PartialEq, Eq)]
@@ -28,14 +31,13 @@ pub enum Verdict {
 pub fn judge(bytes: &[u8], len: u64) -> Verdict
     ensures { IsVerdict bytes.now len result }
 {
-    let Some((front, mark, walk)) = whole(bytes) else {
+    let Some((mark, walk)) = whole(bytes) else {
         return Verdict::NotWhole;
     };
-    let computed = crc32(front);
-    if mark.crc != computed {
+    if mark.crc != walk.crc {
         return Verdict::BadCheck {
             stored: mark.crc,
-            computed,
+            computed: walk.crc,
         };
     }
     if len < mark.at {
@@ -53,19 +55,20 @@ pub fn judge(bytes: &[u8], len: u64) -> Verdict
     }
 }
 
-// What a walk over rows found: how many they are, and the number of the first that isn't sound.
+// What a walk over rows found: how many they are, the number of the first that isn't sound, and their
+// checksum.
 #[derive(Clone, Copy, Debug)]
 struct Walk {
     rows: u64,
     first_bad: Option<u64>,
+    crc: u32,
 }
 
-// The rows before the end mark, the mark, and what a walk over the rows found; None where the bytes
-// aren't whole.
-fn whole(bytes: &[u8]) -> Option<(&[u8], Header, Walk)>
+// The end mark, and what a walk over the rows before it found; None where the bytes aren't whole.
+fn whole(bytes: &[u8]) -> Option<(Header, Walk)>
     ensures { MatchOption result
         ((covered : ℕ) (rows : List Hinted) (crc : ℕ) → IsHint bytes.now covered rows crc → ⊥)
-        (λ x. IsWhole bytes.now x.0.now x.1.at x.1.crc x.2.rows x.2.first_bad) }
+        (λ x. IsWhole bytes.now x.0.at x.0.crc x.1.crc x.1.rows x.1.first_bad) }
 {
     let (front, mark) = bytes.split_last_chunk::<HINT_HEADER>()?;
     let mark = Header::read(mark);
@@ -73,16 +76,19 @@ fn whole(bytes: &[u8]) -> Option<(&[u8], Header, Walk)>
     if !mark.is_mark(walk.rows) {
         return None;
     }
-    Some((front, mark, walk))
+    Some((mark, walk))
 }
 
-// None where the bytes aren't rows alone.
+// One walk over the bytes; None where they aren't rows alone. The checksum follows in pieces, so that
+// each piece is read while it is near.
 fn walk_over(bytes: &[u8], covered: u64) -> Option<Walk>
     ensures { MatchOption result ((rows : List Hinted) → AreRows bytes.now rows → ⊥)
         (λ walk. (rows : List Hinted) × AreRows bytes.now rows
-        × IsWalked covered rows walk.rows walk.first_bad) }
+        × IsWalked covered rows walk.rows walk.first_bad × (walk.crc ≡ crc_of bytes.now)) }
 {
     let mut left = bytes;
+    let mut unchecked = bytes;
+    let mut check = Running::new();
     let mut rows = 0;
     let mut first_bad = None;
     while !left.is_empty() {
@@ -90,8 +96,28 @@ fn walk_over(bytes: &[u8], covered: u64) -> Option<Walk>
         first_bad = first_of(first_bad, rows, header.is_sound(covered));
         rows += 1;
         left = rest;
+        unchecked = check_up_to(left, unchecked, &mut check);
     }
-    Some(Walk { rows, first_bad })
+    check.add(unchecked);
+    Some(Walk {
+        rows,
+        first_bad,
+        crc: check.end(),
+    })
+}
+
+// Checks the bytes before those that are left, once they are a piece. What it gives is unchecked yet.
+fn check_up_to<'a>(left: &'a [u8], unchecked: &'a [u8], check: &mut Running) -> &'a [u8]
+    requires { EndsWith unchecked.now left.now }
+    ensures same { register_after check.new result.now ≡ register_after check.old unchecked.now }
+    ensures ends { EndsWith result.now left.now }
+{
+    let walked = unchecked.len() - left.len();
+    if walked < PIECE {
+        return unchecked;
+    }
+    check.add(&unchecked[..walked]);
+    left
 }
 
 // The first row that isn't sound, where the row of this number comes behind those before.

@@ -77,6 +77,28 @@ fn rows_are_written_and_read_again(rt: HostRuntime) -> Result<(), Fail> {
     Ok(())
 }
 
+// More bytes than are checked at once.
+#[test]
+fn a_hint_of_many_rows_is_good(rt: HostRuntime) -> Result<(), Fail> {
+    let mut hint = HintOut::new();
+    let mut out = Vec::new(rt.alloc());
+    let row = row(rt.alloc(), PUT)?;
+    for _ in 0..200 {
+        hint.add(&row, &mut out)?;
+    }
+    hint.finish(24, &mut out)?;
+    let good = Verdict::Good {
+        covered: 24,
+        rows: 200,
+    };
+    assert_eq!(rt; judge(&out, 24), good);
+    if let Some(first) = out.first_mut() {
+        *first = 1;
+    }
+    assert!(rt; matches!(judge(&out, 24), Verdict::BadCheck { .. }));
+    Ok(())
+}
+
 const BAD_CHECK: Verdict = Verdict::BadCheck {
     stored: 0x1fd4_ea07,
     computed: 0x86dd_bbbd,

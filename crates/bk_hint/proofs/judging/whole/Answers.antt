@@ -31,6 +31,6 @@ returns c =
     let found = c.in_ok-walk.ensures in
     found_whole c.args.bytes.now c.in_ok-front.front.now c.in_ok-front.mark.now c.read-mark.result
     c.in_ok-front.ensures.cases.0 c.in_ok-front.ensures.cases.1 c.read-mark.ensures
-    c.in_ok-walk.walk.rows c.in_ok-walk.walk.first_bad found.0
+    c.in_ok-walk.walk.rows c.in_ok-walk.walk.crc c.in_ok-walk.walk.first_bad found.0
     (λ i. omega (arith, c.type_inv.bytes i)) (omega (arith, c.in_ok-front.ensures.cases.2)) (omega arith)
-    found.1 found.2 (c.if-not-is_mark.ensures.0 refl)
+    found.1 found.2 found.3 (c.if-not-is_mark.ensures.0 refl)

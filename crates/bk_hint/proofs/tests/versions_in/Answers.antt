@@ -2,7 +2,7 @@ use Rattle.std.specs.Option.{option_map}
 use Rattle.bk_hint.specs.declared.rows.HintRow.{HintRow}
 use Rattle.bk_laws.specs.Hint.{RowsLeft}
 use Rattle.bk_hint.specs.Passing.{Reading}
-use Rattle.std.proofs.Common.{ℕ, sym, ap, subst}
+use Rattle.std.proofs.Common.{sym, subst}
 use Rattle.bk_hint.proofs.RoundTrips.{good_rows}
 use Rattle.bk_hint.proofs.RowsLeftBehind.{left_after}
 use Rattle.bk_hint.proofs.tests.versions_in.Goals as goal

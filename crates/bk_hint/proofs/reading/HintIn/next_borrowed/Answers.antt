@@ -1,7 +1,7 @@
-use Rattle.std.proofs.Common.{◌≡◌, ℕ, ◌+◌, ◌≤◌, List, length, take, drop, refl, sym, ap, subst, ◌∙◌, arith}
+use Rattle.std.proofs.Common.{◌≡◌, ℕ, ◌+◌, ◌≤◌, List, length, drop, refl, sym, ap, subst, arith}
 use Rattle.std.proofs.lemmas.List.{take_rest}
 use Rattle.bk_base.specs.declared.limits.TheConstants.{LONGEST_KEY, LONGEST_VALUE, RECORD_HEADER}
-use Rattle.bk_laws.specs.Hint.{Hinted, RowsLeft}
+use Rattle.bk_laws.specs.Hint.{RowsLeft}
 use Rattle.bk_laws.specs.Record.{value_length}
 use Rattle.bk_hint.specs.Headers.{IsFirstRow, NoRow, row_in}
 use Rattle.bk_hint.specs.Passing.{Reading}
