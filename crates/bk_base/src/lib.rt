@@ -23,7 +23,7 @@ pub use jobs::{Cause, JobInput, JobPart, JobState, PartState, Phase};
 pub use keys::{Key, KeyLength};
 pub use names::{Kind, Name, one_text};
 pub use numbers::{FileId, Moment, Seq};
-pub use requests::{Reply, Request};
+pub use requests::{Full, Reply, Request};
 pub use rows::{Row, RowState};
 pub use statuses::{SessionEnd, Status};
 pub use values::{Value, ValueLength};

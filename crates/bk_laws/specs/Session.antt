@@ -13,7 +13,7 @@ use Rattle.bk_base.specs.declared.requests.Request.TheVariants.{Get, Put}
 use Rattle.bk_base.specs.declared.requests.Reply.{Reply}
 use Rattle.bk_base.specs.declared.requests.Reply.TheVariants.{Value, Absent, Numbered}
 use Rattle.bk_laws.specs.History.{entries}
-use Rattle.bk_laws.specs.Wire.{request_text, reply_text, Fits}
+use Rattle.bk_laws.specs.Wire.{request_text, reply_text, Fits, StandsIn}
 
 -- One request of a session, the moment that the clock gave for it, the steps that the history
 -- gained while it was served, and its replies.
@@ -48,15 +48,23 @@ abbrev pub ShowsPut : Answer → Reply → Type 0
 ShowsPut (numbered_answer seq) (Numbered shown) = seq ≡ shown
 ShowsPut answer reply = ⊥
 
--- the call that a request makes at a moment
+-- The requests that a session serves so far: it ends where another one stands.
+abbrev pub IsOffered : Request → Type 0
+IsOffered (Get key) = Unit {0}
+IsOffered (Put key value) = Unit {0}
+IsOffered request = ⊥
+
+-- the call that such a request makes at a moment
 abbrev pub call_of : Request → Moment → Call
 call_of (Get key) now = get_call key now
 call_of (Put key value) now = put_call key value now
+call_of request now = Quiet
 
 -- Which calls and replies serve a request: one line for each request.
 abbrev pub Serves : Request → Moment → List Entry → List Reply → Type 0
 Serves (Get key) now = OneCall (get_call key now) ShowsGet
 Serves (Put key value) now = OneCall (put_call key value now) ShowsPut
+Serves request now = λ es replies. ⊥
 
 -- the turn of a request that was served
 pub record IsExchange (who : ℕ) (t : Exchange) : Type 0 where
@@ -67,8 +75,13 @@ pub record IsExchange (who : ℕ) (t : Exchange) : Type 0 where
 -- the session ended before its reply
 pub record IsCutOff (who : ℕ) (t : Exchange) : Type 0 where
   pub fits : Fits t.request
+  pub offered : IsOffered t.request
   pub silent : t.replies ≡ []
   pub made : (named who t.steps ≡ []) ⊎ ((e : Entry) × (named who t.steps ≡ e ∷ []) × (e.call ≡ call_of t.request t.now))
+
+-- no request that is offered stands at the front of the stream
+abbrev pub NoneOffered : List ℕ → Type 0
+NoneOffered stream = (request : Request) (rest : List ℕ) → StandsIn stream request rest → IsOffered request → ⊥
 
 abbrev pub requests_of : List Exchange → List ℕ
 requests_of = flat_map (λ (t : Exchange). request_text t.request)
