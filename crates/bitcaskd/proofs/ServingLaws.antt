@@ -110,6 +110,7 @@ one_call (Get key) now reply (e ∷ f ∷ es) serves = absurd serves
 one_call (Put key value) now reply (e ∷ []) serves = (e, refl, serves.0)
 one_call (Put key value) now reply [] serves = absurd serves
 one_call (Put key value) now reply (e ∷ f ∷ es) serves = absurd serves
+one_call request now reply es serves = absurd serves
 
 pub cut_off : (dt ct : Bool) (request : Request) (reply : Reply) (old new : Site)
     → Served dt ct request reply old new → Refused dt ct request old new

@@ -15,13 +15,13 @@ use Rattle.bk_base.specs.declared.writes.Write.{Write}
 use Rattle.bk_disk.specs.Causes.{Rose, most}
 use Rattle.bk_disk.specs.Streams.{Takes, first_moment, later_moments}
 use Rattle.bk_laws.specs.History.{State, IsReply, IsLegal, after, state_of, entries}
-use Rattle.bk_laws.specs.Session.{Exchange, IsExchange, Transcript, IsTranscript, all_exchanges, requests_of, replies_of, steps_of, moments_of}
+use Rattle.bk_laws.specs.Session.{Exchange, IsExchange, Transcript, IsTranscript, all_exchanges, requests_of, replies_of, steps_of, moments_of, IsOffered, NoneOffered}
 use Rattle.bk_laws.specs.Wire.{Fits, request_text, reply_text, StandsIn, IsBad, IsPartial}
 use Rattle.std.proofs.Math.Seq.{drop-drop}
 use Rattle.std.proofs.lemmas.List.{take-append-drop}
 use Rattle.std.proofs.lemmas.Grind.{common_steps}
 use Rattle.bk_wire.specs.Stream.{Stream, taken}
-use Rattle.bk_wire.proofs.RequestLaws.{none_in_partial, some_text}
+use Rattle.bk_wire.proofs.RequestLaws.{none_in_partial, same_standing, some_text}
 use Rattle.bitcaskd.specs.declared.input.Input.{Input}
 use Rattle.bitcaskd.specs.declared.input.Input.TheVariants.{Taken, Ended, Long as took_most, Failed, Memory as no_memory}
 use Rattle.bitcaskd.specs.declared.refusals.Refusal.{Refusal}
@@ -391,18 +391,14 @@ last_written tells start before gathered now start_faults faults_before faults_n
 refused_ends : (tells : Telling) (start old : Scene) (site : Site) (before after : Stream)
     (gathered written : List ℕ) (faults : ℕ) (served : List Exchange) (request : Request)
     → SoFar tells start old before gathered served → StandsIn before.rest request after.rest
-    → (r : Refused tells.disk tells.clock request old.site site)
+    → IsOffered request → (r : Refused tells.disk tells.clock request old.site site)
     → Flushed tells.sink old.written written gathered old.sink_faults faults
     → Stopped tells start (with_sink (at_site old site) written faults) Memory
-refused_ends tells start old site before after gathered written faults served request so stands r flushed =
+refused_ends tells start old site before after gathered written faults served request so stands offered r flushed =
     let turn = turn_of request r.now r.step [] in
     record {
       talk = record { served = served; cut = turn ∷ [] };
-      said = record {
-        each = so.each;
-        last = (record { fits = stands.fits; silent = refl; made = r.made }, tt);
-        one = omega arith;
-      };
+      said = record { each = so.each; last = (record { fits = stands.fits; offered = offered; silent = refl; made = r.made }, tt); one = omega arith };
       served = tt;
       whole = so.whole;
       reads = λ t. (
@@ -453,16 +449,13 @@ pub refusal_ends : (refusal : Refusal) (tells : Telling) (start old : Scene) (si
     (before after : Stream) (gathered written : List ℕ) (faults : ℕ) (served : List Exchange)
     (request : Request)
     → SoFar tells start old before gathered served → StandsIn before.rest request after.rest
-    → Refused tells.disk tells.clock request old.site site
+    → IsOffered request → Refused tells.disk tells.clock request old.site site
     → Flushed tells.sink old.written written gathered old.sink_faults faults
     → Stopped tells start (with_sink (at_site old site) written faults) (status_of refusal)
-refusal_ends refused_memory tells start old site before after gathered written faults served request
-    so stands r flushed =
-    refused_ends tells start old site before after gathered written faults served request so stands r flushed
-refusal_ends refused_disk tells start old site before after gathered written faults served request so stands r flushed =
-    by_disk tells start _
-    (refused_ends tells start old site before after gathered written faults served request so
-    stands r flushed)
+refusal_ends refused_memory tells start old site before after gathered written faults served request so stands offered r flushed =
+    refused_ends tells start old site before after gathered written faults served request so stands offered r flushed
+refusal_ends refused_disk tells start old site before after gathered written faults served request so stands offered r flushed =
+    by_disk tells start _ (refused_ends tells start old site before after gathered written faults served request so stands offered r flushed)
 
 -- Memory ran out before a request was served.
 pub memory_ends : (tells : Telling) (start now : Scene) (stream : Stream) (gathered written : List ℕ)
@@ -488,26 +481,36 @@ memory_ends tells start now stream gathered written faults served so flushed = r
       (sym (append-nil served)) so.counts;
 }
 
--- bytes that go on to no request are some
+-- However the stream goes on, no request stands at its front that is offered.
+abbrev pub NeverOffered : List ℕ → Type 0
+NeverOffered stream = (more : List ℕ) → NoneOffered (stream ++ more)
+
+pub bad_never : (stream : List ℕ) → IsBad stream → NeverOffered stream
+bad_never stream never more r rest stands offered = never more r rest stands
+
+pub other_never : (stream : List ℕ) (r : Request) (after : List ℕ) → StandsIn stream r after → (IsOffered r → ⊥) → NeverOffered stream
+other_never stream r after stands not_offered more s rest other offered =
+    let whole = ap (λ t. t ++ more) stands.whole ∙ append_assoc (request_text r) after more in
+    let same = same_standing (stream ++ more) r s (after ++ more) rest (record { fits = stands.fits; whole = whole }) other in
+    not_offered (subst IsOffered (sym same.0) offered)
+
+-- such a stream isn't empty
 fits_a : Fits (Get (97 ∷ []))
 fits_a = record {
   bounds = record { some = omega arith; short = omega arith };
   bytes = λ i. grind (arith, common_steps);
 }
 
-pub bad_left : (tells : Telling) (start now : Scene) (stream : Stream) (gathered : List ℕ)
-    (served : List Exchange) → SoFar tells start now stream gathered served
-    → IsBad stream.rest → IsTrue tells.source → Reads NotBuilt (drop start.taken start.whole) [] (whole_talk served)
+pub bad_left : (tells : Telling) (start now : Scene) (stream : Stream) (gathered : List ℕ) (served : List Exchange) → SoFar tells start now stream gathered served
+    → NeverOffered stream.rest → IsTrue tells.source → Reads NotBuilt (drop start.taken start.whole) [] (whole_talk served)
 unfolding some_left
 bad_left tells start now stream gathered served so never t =
     let (rest, read) = some_left tells start now stream gathered served so t in
     (rest, read, some (stream.rest) (drop now.taken now.whole) never, never (drop now.taken now.whole))
   where
-    some : (front back : List ℕ) → IsBad front → 0 < length (front ++ back)
+    some : (front back : List ℕ) → NeverOffered front → 0 < length (front ++ back)
     some (x ∷ xs) back never = omega arith
-    some [] back never =
-        absurd (never (request_text (Get (97 ∷ []))) (Get (97 ∷ [])) []
-        (record { fits = fits_a; whole = sym (append-nil (request_text (Get (97 ∷ [])))) }))
+    some [] back never = absurd (never (request_text (Get (97 ∷ []))) (Get (97 ∷ [])) [] (record { fits = fits_a; whole = sym (append-nil (request_text (Get (97 ∷ [])))) }) tt)
 
 -- The input ended: within a request, or behind the last one.
 pub input_left : (tells : Telling) (start now : Scene) (stream : Stream) (gathered : List ℕ)
@@ -520,7 +523,7 @@ input_left tells start now stream gathered served so none part some t = (
       ∙ append-nil (requests_of served ++ stream.rest)
       ∙ ap (λ (ts : List Exchange). requests_of ts ++ stream.rest) (sym (append-nil served)),
   some,
-  none_in_partial stream.rest part,
+  λ r rest stands _. none_in_partial stream.rest part r rest stands,
 )
 
 pub all_read : (tells : Telling) (start now : Scene) (stream : Stream) (gathered : List ℕ)
@@ -582,14 +585,12 @@ asks_on (Some status) dt kt ct request old new written faults gathered more late
     (sink_ends tells start (at_site scene new) after more later faults_later turns
     (goes_on tells start scene new before after gathered more served request so stands same a) some.1)
 
-pub asks_no_more : (refusal : Refusal) (dt kt ct : Bool) (request : Request) (old new : Site)
-    (written : List ℕ) (faults : ℕ) (gathered : List ℕ) (later : List ℕ) (faults_later : ℕ) (left : List ℕ)
-    → Refused dt ct request old new → Flushed kt written later gathered faults faults_later
+pub asks_no_more : (refusal : Refusal) (dt kt ct : Bool) (request : Request) (old new : Site) (written : List ℕ) (faults : ℕ) (gathered : List ℕ) (later : List ℕ) (faults_later : ℕ) (left : List ℕ)
+    → IsOffered request → Refused dt ct request old new → Flushed kt written later gathered faults faults_later
     → Asks (Some (status_of refusal)) dt kt ct request old written faults gathered new later faults_later left
-asks_no_more refusal dt kt ct request old new written faults gathered later faults_later left r flushed =
+asks_no_more refusal dt kt ct request old new written faults gathered later faults_later left offered r flushed =
     λ st whole took before after stands same start served so.
-    refusal_ends refusal (telling dt st kt ct) start (scene_of old whole took written faults) new
-    before after gathered later faults_later served request so stands r flushed
+    refusal_ends refusal (telling dt st kt ct) start (scene_of old whole took written faults) new before after gathered later faults_later served request so stands offered r flushed
 
 -- What a run does where it reads on.
 pub reads_no_more : (dt st kt ct : Bool) (site : Site) (whole : List ℕ) (took : ℕ) (written : List ℕ)
@@ -612,13 +613,10 @@ emptied tells start site whole took written faults gathered later faults_later s
     moves_out tells start (scene_of site whole took written faults) stream gathered [] later
     faults_later served so (λ t. (gathered, wrote t, sym (append-nil gathered))) rises
 
-pub stops_at_bad : (dt st kt ct : Bool) (site : Site) (whole : List ℕ) (took : ℕ) (written : List ℕ)
-    (faults : ℕ) (gathered later : List ℕ) (faults_later : ℕ) (stream after : Stream) (left : List ℕ)
-    → IsBad stream.rest → (IsTrue kt → Wrote written later gathered) → faults ≤ faults_later
-    → Turns (Some NotBuilt) (telling dt st kt ct) (scene_of site whole took written faults) stream
-    gathered (scene_of site whole took later faults_later) after left
-stops_at_bad dt st kt ct site whole took written faults gathered later faults_later stream after left
-    never wrote rises =
+pub stops_at_bad : (dt st kt ct : Bool) (site : Site) (whole : List ℕ) (took : ℕ) (written : List ℕ) (faults : ℕ) (gathered later : List ℕ) (faults_later : ℕ) (stream after : Stream) (left : List ℕ)
+    → NeverOffered stream.rest → (IsTrue kt → Wrote written later gathered) → faults ≤ faults_later
+    → Turns (Some NotBuilt) (telling dt st kt ct) (scene_of site whole took written faults) stream gathered (scene_of site whole took later faults_later) after left
+stops_at_bad dt st kt ct site whole took written faults gathered later faults_later stream after left never wrote rises =
     λ start served so.
     let so' =
     emptied (telling dt st kt ct) start site whole took written faults gathered later faults_later
@@ -730,24 +728,14 @@ pub left_some : (P : Type 0) (Q : ℕ → Type 0) (o : Option ℕ) (b : Bool) �
 left_some P Q None b h same is = let wrong : false ≡ true = same ∙ ap not is in absurd (cc wrong)
 left_some P Q (Some n) b h same is = (n, h)
 
-pub bad_turn : (r : Option Status) (dt st kt ct : Bool) (site : Site) (whole : List ℕ) (took : ℕ)
-    (written : List ℕ) (faults : ℕ) (gathered later : List ℕ) (faults_later : ℕ)
-    (stream after : Stream) (left : List ℕ)
-    → IsBad stream.rest → StopsAtBad r kt written faults gathered later faults_later
-    → Turns r (telling dt st kt ct) (scene_of site whole took written faults) stream gathered
-    (scene_of site whole took later faults_later) after left
-bad_turn r dt st kt ct site whole took written faults gathered later faults_later stream after left
-    never (inl (is, wrote, rises)) =
-    subst (λ (o : Option Status). Turns o (telling dt st kt ct)
-    (scene_of site whole took written faults) stream gathered
-    (scene_of site whole took later faults_later) after left) (sym is)
-    (stops_at_bad dt st kt ct site whole took written faults gathered later faults_later stream after
-    left never wrote rises)
-bad_turn r dt st kt ct site whole took written faults gathered later faults_later stream after left
-    never (inr (is, failed, rises)) =
-    subst (λ (o : Option Status). Turns o (telling dt st kt ct)
-    (scene_of site whole took written faults) stream gathered
-    (scene_of site whole took later faults_later) after left) (sym is)
+pub bad_turn : (r : Option Status) (dt st kt ct : Bool) (site : Site) (whole : List ℕ) (took : ℕ) (written : List ℕ) (faults : ℕ) (gathered later : List ℕ) (faults_later : ℕ) (stream after : Stream) (left : List ℕ)
+    → NeverOffered stream.rest → StopsAtBad r kt written faults gathered later faults_later
+    → Turns r (telling dt st kt ct) (scene_of site whole took written faults) stream gathered (scene_of site whole took later faults_later) after left
+bad_turn r dt st kt ct site whole took written faults gathered later faults_later stream after left never (inl (is, wrote, rises)) =
+    subst (λ (o : Option Status). Turns o (telling dt st kt ct) (scene_of site whole took written faults) stream gathered (scene_of site whole took later faults_later) after left) (sym is)
+    (stops_at_bad dt st kt ct site whole took written faults gathered later faults_later stream after left never wrote rises)
+bad_turn r dt st kt ct site whole took written faults gathered later faults_later stream after left never (inr (is, failed, rises)) =
+    subst (λ (o : Option Status). Turns o (telling dt st kt ct) (scene_of site whole took written faults) stream gathered (scene_of site whole took later faults_later) after left) (sym is)
     (reads_no_more dt st kt ct site whole took written faults gathered later faults_later stream after left failed)
 
 -- each turn leaves less to be done

@@ -12,8 +12,8 @@ use Rattle.bk_disk.specs.Causes.{Rose}
 use Rattle.bk_disk.specs.Crashes.{IsSynced}
 use Rattle.bk_disk.specs.Told.{Image, Told}
 use Rattle.bk_laws.specs.History.{IsLegalHistory, log_of}
-use Rattle.bk_laws.specs.Wire.{IsPartial, NoneStands}
-use Rattle.bk_laws.specs.Session.{Transcript, IsTranscript, all_exchanges, requests_of, replies_of, steps_of, moments_of}
+use Rattle.bk_laws.specs.Wire.{IsPartial}
+use Rattle.bk_laws.specs.Session.{Transcript, IsTranscript, all_exchanges, requests_of, replies_of, steps_of, moments_of, NoneOffered}
 use Rattle.bk_disk.specs.Counts.{Counted}
 use Rattle.bitcaskd.specs.Serving.{Ticks}
 use Rattle.bitcaskd.specs.Shelf.{filed, files}
@@ -63,12 +63,12 @@ ReadsAll input left talk =
     (part : List ℕ) × (input ≡ (requests_of (all_exchanges talk) ++ part) ++ left) × IsPartial part
 
 -- Of the input, `left` wasn't read. Done: the input is exactly the requests. NotBuilt: behind them it
--- isn't empty, and no request stands there. Source and Long: each request that was read whole is among
--- them. Otherwise the input begins with them.
+-- isn't empty, and no request stands there that is offered. Source and Long: each request that was read
+-- whole is among them. Otherwise the input begins with them.
 abbrev pub Reads : Status → List ℕ → List ℕ → Transcript → Type 0
 Reads Done input left talk = input ≡ requests_of (all_exchanges talk)
 Reads NotBuilt input left talk =
-    (rest : List ℕ) × (input ≡ requests_of (all_exchanges talk) ++ rest) × (0 < length rest) × NoneStands rest
+    (rest : List ℕ) × (input ≡ requests_of (all_exchanges talk) ++ rest) × (0 < length rest) × NoneOffered rest
 Reads Source input left talk = ReadsAll input left talk
 Reads Long input left talk = ReadsAll input left talk
 Reads status input left talk = (rest : List ℕ) × (input ≡ requests_of (all_exchanges talk) ++ rest)

@@ -1,6 +1,7 @@
 //! One request, from the clock and the store to its reply.
 ghost use Rattle.std.specs.Prelude.{◌≡◌, ◌⊎◌, ◌+◌, ◌*◌, ◌^◌, ◌<◌, ◌≤◌, ◌++◌, ℕ, length, IsTrue, OnOk, IfOk, OnErr, IsErrOf};
 ghost use Rattle.bk_disk.specs.Causes.{Rose};
+ghost use Rattle.bk_laws.specs.Session.{IsOffered};
 ghost use Rattle.bk_laws.specs.Wire.{Fits, request_text, reply_text};
 ghost use Rattle.bitcaskd.specs.Serving.{Answered, Served, Refused, site_of};
 ghost use Rattle.bitcaskd.specs.Shelf.{FitsWithin};
@@ -23,6 +24,7 @@ fn serve<D: Disk, C: Clock>(
     requires stands { IsTrue D.tells → Stands store.old.files.told
         store.old.files.catalog store.old.index }
     requires fits { Fits request }
+    requires offered { IsOffered request }
     requires files { FitsWithin (2 ^ 56) store.old.files.catalog }
     requires seq { store.old.index.last + length (request_text request) < 2 ^ 63 }
     ensures files { OnOk result ((most : ℕ) → FitsWithin most store.old.files.catalog
@@ -55,6 +57,7 @@ fn serve<D: Disk, C: Clock>(
             Ok(seq) => Ok(Reply::Numbered(seq)),
             Err(refusal) => Err(refusal),
         },
+        _ => unreachable!(),
     }
 }
 
@@ -69,6 +72,7 @@ pub fn answer<D: Disk, C: Clock>(
     requires stands { IsTrue D.tells → Stands store.old.files.told
         store.old.files.catalog store.old.index }
     requires fits { Fits request }
+    requires offered { IsOffered request }
     requires files { FitsWithin (2 ^ 56) store.old.files.catalog }
     requires seq { store.old.index.last + length (request_text request) < 2 ^ 63 }
     ensures files { OnOk result ((most : ℕ) → FitsWithin most store.old.files.catalog

@@ -1,6 +1,7 @@
 //! The talk with a client: requests are read, served and answered until the input or the run ends.
-ghost use Rattle.std.specs.Prelude.{◌≡◌, ◌⊎◌, ◌+◌, ◌*◌, ◌<◌, ◌≤◌, ◌≢◌, [], Bool, None, Some, List, ℕ, length, IsTrue, IfOk, IfSome};
+ghost use Rattle.std.specs.Prelude.{◌≡◌, ◌⊎◌, ◌↔◌, ◌+◌, ◌*◌, ◌<◌, ◌≤◌, ◌≢◌, [], Bool, None, Some, List, ℕ, length, IsTrue, IfOk, IfSome};
 ghost use Rattle.bk_disk.specs.Causes.{Rose};
+ghost use Rattle.bk_laws.specs.Session.{IsOffered};
 ghost use Rattle.bk_laws.specs.Wire.{Fits, IsPartial, request_text};
 ghost use Rattle.bk_wire.specs.Stream.{taken};
 ghost use Rattle.bitcaskd.specs.Run.{IsBuilt, telling};
@@ -55,6 +56,7 @@ fn ask<D: Disk, K: Sink, C: Clock>(
     requires stands { IsTrue D.tells → Stands store.old.files.told
         store.old.files.catalog store.old.index }
     requires fits { Fits request }
+    requires offered { IsOffered request }
     requires files { FitsWithin (46 * LONGEST_SESSION) store.old.files.catalog }
     requires last { store.old.index.last + length (request_text request) ≤ LONGEST_SESSION }
     ensures files { result ≡ None → (most : ℕ) → FitsWithin most store.old.files.catalog
@@ -206,7 +208,10 @@ fn turn<D: Disk, S: Source, K: Sink, C: Clock>(
     ensures built { IfSome result IsBuilt }
 {
     match desk.reader.next() {
-        Ok(Next::Ask(request)) => ask(alloc, store, clock, &mut desk.replies, sink, request),
+        Ok(Next::Ask(request)) if is_offered(&request) => {
+            ask(alloc, store, clock, &mut desk.replies, sink, request)
+        }
+        Ok(Next::Ask(_)) => stop_at_bad(&mut desk.replies, sink),
         Ok(Next::Need) => read_on(desk, source, sink),
         Ok(Next::Bad(_)) => stop_at_bad(&mut desk.replies, sink),
         Err(_) => {
@@ -216,7 +221,14 @@ fn turn<D: Disk, S: Source, K: Sink, C: Clock>(
     }
 }
 
-/// No request stands at the front of what was taken: the replies before it are written.
+/// Whether the program serves this request so far.
+fn is_offered(request: &Request) -> bool
+    ensures { IsTrue result ↔ IsOffered request.now }
+{
+    matches!(request, Request::Get(_) | Request::Put(_, _))
+}
+
+/// No request that is served stands at the front: the replies before it are written.
 fn stop_at_bad<K: Sink>(replies: &mut Vec<u8>, sink: &mut K) -> Option<Status>
     ensures { StopsAtBad result K.tells (K.written sink.old) (K.faults sink.old) replies.old.items
         (K.written sink.new) (K.faults sink.new) }

@@ -2,7 +2,7 @@
 use Rattle.std.proofs.Common.{◌≡◌, ℕ, ◌+◌, ◌-◌, ◌*◌, ◌/◌, ◌%◌, ◌^◌, ◌<◌, ◌≤◌, true, false, cond, ◌==◌, ltb, List, [], ◌∷◌, ◌++◌, length, take, drop, replicate, decimal, Ok, Err, refl, sym, ap, ◌∙◌, inl, inr, arith, append_assoc, append-nil, eq-eqb, ne_eqb, eqb-true, lt-ltb, le-ltb, le-leb, leb-true, ltb-true, ltb-false, take-append-drop, length-append}
 use Rattle.std.proofs.lemmas.Bool.{and_parts, and_from}
 use Rattle.std.proofs.lemmas.List.{take_at, drop_at, length-take-le, length-replicate}
-use Rattle.std.proofs.lemmas.Fmt.{decimal_digit, decimal_step, decimal_by_steps}
+use Rattle.std.proofs.lemmas.Fmt.{decimal_digit, decimal_step_wide, decimal_by_steps_wide}
 use Rattle.bk_base.specs.Bounds.{AreBytes}
 use Rattle.bk_base.proofs.Bytes.{AreBytes-append, AreBytes-take, AreBytes-zeros}
 use Rattle.bk_wire.specs.declared.stops.Stop.TheVariants.{Short, Bad}
@@ -82,9 +82,9 @@ goes_on_from most n b h =
     and_from _ _ (lt-ltb 0 n h.above) (and_from _ _ (and_from _ _ (le-leb 48 b h.low) (le-leb b 57 h.high)) (le-leb (n * 10 + (b - 48)) most h.fits))
 
 -- a further digit
-decimal_more : (most n b : ℕ) → GoesOn most n b → most < 2 ^ 64 → decimal (n * 10 + (b - 48)) ≡ decimal n ++ b ∷ []
+decimal_more : (most n b : ℕ) → GoesOn most n b → most < 10 ^ 64 → decimal (n * 10 + (b - 48)) ≡ decimal n ++ b ∷ []
 decimal_more most n b h small =
-    let step = decimal_step (n * 10 + (b - 48)) (omega arith) (omega arith) in
+    let step = decimal_step_wide (n * 10 + (b - 48)) (omega arith) (omega arith) in
     let front : (n * 10 + (b - 48)) / 10 ≡ n = omega arith in
     let last : 48 + (n * 10 + (b - 48)) % 10 ≡ b = omega arith in
     step ∙ ap (λ k. decimal k ++ (48 + (n * 10 + (b - 48)) % 10) ∷ []) front ∙ ap (λ d. decimal n ++ d ∷ []) last
@@ -95,7 +95,7 @@ record Read (least most end n : ℕ) (text rest : List ℕ) : Type 0 where
   high : n ≤ most
   split : text ≡ decimal n ++ end ∷ rest
 
-module _ (most end : ℕ) (small : most < 2 ^ 64) where
+module _ (most end : ℕ) (small : most < 10 ^ 64) where
   digits_whole : (n : ℕ) (bytes : List ℕ) (m : ℕ) (rest : List ℕ) → n ≤ most → digits_at most end n bytes ≡ Ok (m, rest) → Read n most end m (decimal n ++ bytes) rest
   unfolding digits_at
   digits_whole n [] m rest fits e = cc
@@ -182,7 +182,7 @@ first_digit least most b h =
     let whole : 48 + (b - 48) ≡ b = omega (arith, h.low) in
     decimal_digit (b - 48) (omega (arith, h.high)) ∙ ap (λ d. d ∷ []) whole
 
-module _ (least most end : ℕ) (small : most < 2 ^ 64) (low : least ≤ 1) (high : 9 ≤ most) (apart : end < 48) where
+module _ (least most end : ℕ) (small : most < 10 ^ 64) (low : least ≤ 1) (high : 9 ≤ most) (apart : end < 48) where
   number_whole : (bytes : List ℕ) (m : ℕ) (rest : List ℕ) → number_at least most end bytes ≡ Ok (m, rest) → Read least most end m bytes rest
   unfolding number_at
   number_whole [] m rest e = cc
@@ -260,7 +260,7 @@ module _ (least most end : ℕ) (small : most < 2 ^ 64) (low : least ≤ 1) (hig
   number_again : (n : ℕ) (rest : List ℕ) → (least ≤ n) × (n ≤ most) → number_at least most end ((decimal n ++ end ∷ []) ++ rest) ≡ Ok (n, rest)
   number_again n rest fits =
       ap (λ t. number_at least most end t) (append_assoc (decimal n) (end ∷ []) rest)
-      ∙ decimal_by_steps Digits one_digit more_digits n (omega arith) fits.0 fits.1 (end ∷ rest)
+      ∙ decimal_by_steps_wide Digits one_digit more_digits n (omega arith) fits.0 fits.1 (end ∷ rest)
       ∙ ends n rest
 
   pub number_code : IsCode (λ n. decimal n ++ end ∷ []) (λ n. (least ≤ n) × (n ≤ most)) (number_at least most end)

@@ -1,4 +1,6 @@
 pub mod Codes
+pub mod Choices
 pub mod FieldCodes
+pub mod PartCodes
 pub mod RequestCodes
 pub mod RequestLaws

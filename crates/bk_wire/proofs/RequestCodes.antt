@@ -1,148 +1,160 @@
 -- A request is a code: its header line, then its key and its value.
-use Rattle.std.proofs.Common.{◌≡◌, ℕ, ◌≤◌, List, [], ◌∷◌, ◌++◌, ◌⊎◌, Result, length, decimal, codes, Ok, Err, refl, ap, ◌∙◌, inl, inr, arith, lit≤, lit<, append_assoc}
-use Rattle.bk_base.specs.declared.limits.TheConstants.{LONGEST_KEY, LONGEST_VALUE}
+use Rattle.std.proofs.Common.{◌≡◌, ℕ, ◌<◌, ◌≤◌, Bool, true, List, [], ◌∷◌, ◌++◌, Result, codes, get_or, Ok, Err, refl, arith, ap, ◌∙◌}
 use Rattle.bk_base.specs.declared.requests.Request.{Request}
-use Rattle.bk_base.specs.declared.requests.Request.TheVariants.{Get, Put}
-use Rattle.bk_base.specs.Bounds.{AreBytes}
+use Rattle.bk_base.specs.declared.requests.Request.TheVariants.{Get, Put, Delete, Fold, Keys, Sync, Stat, Quit}
 use Rattle.bk_laws.specs.Wire.{FitsKey, FitsValue, Fits, request_text}
 use Rattle.bk_wire.specs.declared.stops.Stop.{Stop}
 use Rattle.bk_wire.specs.declared.stops.Stop.TheVariants.{Bad}
-use Rattle.bk_wire.specs.Reading.{◌>>=◌, literal_at, number_at, piece_at, get_at, put_at, request_at}
-use Rattle.bk_wire.proofs.Codes.{IsCode, joined, done_code, recoded, either_code}
-use Rattle.bk_wire.proofs.FieldCodes.{literal_code, number_code, piece_code}
+use Rattle.bk_wire.specs.Reading.{literal_at, keyed_at, paired_at, word_at, get_at, put_at, delete_at, command_at, request_at}
+use Rattle.bk_wire.proofs.Codes.{IsCode, recoded}
+use Rattle.bk_wire.proofs.Choices.{IsKind, IsFrom, made_code, from_code, last_code, refuses, refused, all_below, below}
+use Rattle.bk_wire.proofs.FieldCodes.{literal_code}
+use Rattle.bk_wire.proofs.PartCodes.{keyed_code, keyed_refused, keyed_text, paired_code, paired_refused, paired_text}
 
-abbrev key_of : Request → List ℕ
-key_of (Get key) = key
-key_of (Put key value) = key
+kind : Request → ℕ
+kind (Get key) = 0
+kind (Put key value) = 1
+kind (Delete key) = 2
+kind Fold = 3
+kind Keys = 4
+kind Sync = 5
+kind Stat = 6
+kind Quit = 7
 
-abbrev value_of : Request → List ℕ
-value_of (Get key) = []
-value_of (Put key value) = value
+-- what a request of each kind begins with
+words : List (List ℕ)
+words = codes "GET " ∷ codes "PUT " ∷ codes "DEL " ∷ codes "FOLD\n" ∷ codes "KEYS\n" ∷ codes "SYNC\n" ∷ codes "STAT\n" ∷ codes "QUIT\n" ∷ []
 
--- a piece within the request has this length, and is bytes
-abbrev Part : ℕ → List ℕ → Type 0
-Part n piece = (length piece ≡ n) × AreBytes piece
+word : ℕ → List ℕ
+word n = get_or words n []
 
-abbrev Within : ℕ → ℕ → ℕ → Type 0
-Within least most n = (least ≤ n) × (n ≤ most)
+-- no request begins as one of an earlier kind
+all_apart : (r : Request) → all_below (kind r) (λ n. refuses (word n) (request_text r)) ≡ true
+unfolding kind words word all_below refuses request_text
+all_apart (Get key) = refl
+all_apart _ = refl
 
--- the line feed that ends a request
-end_code : (request : Request) → IsCode (λ (r : Request). (10 ∷ []) ++ []) (λ r. Unit {0} × (r ≡ request)) (λ bytes. literal_at (10 ∷ []) bytes >>= λ last. Ok (request, last.1))
-end_code request =
-    joined (λ r. tt) (λ _. 10 ∷ []) (λ _. Unit {0}) (literal_at (10 ∷ [])) (λ r. []) (λ _ r. r ≡ request) (λ _ bytes. Ok (request, bytes)) (literal_code (10 ∷ [])) (λ _ _. done_code request) (λ _ _ _. refl)
+apart : (n : ℕ) (r : Request) (rest : List ℕ) → n < kind r → literal_at (word n) (request_text r ++ rest) ≡ Err Bad
+apart n r rest earlier =
+    refused (word n) (request_text r) rest (below (kind r) (λ m. refuses (word m) (request_text r)) n (all_apart r) earlier)
 
--- a request of a verb and a key
-module _ (verb : List ℕ) (make : List ℕ → Request) (made : (key : List ℕ) → key_of (make key) ≡ key) where
-  key_code : (k : ℕ) → IsCode (λ r. key_of r ++ ((10 ∷ []) ++ [])) (λ r. Part k (key_of r) × (Unit {0} × (r ≡ make (key_of r)))) (λ bytes. piece_at k bytes >>= λ key. literal_at (10 ∷ []) key.1 >>= λ last. Ok (make key.0, last.1))
-  key_code k =
-      joined key_of (λ p. p) (Part k) (piece_at k) (λ r. (10 ∷ []) ++ []) (λ p r. Unit {0} × (r ≡ make p)) (λ p bytes. literal_at (10 ∷ []) bytes >>= λ last. Ok (make p, last.1)) (piece_code k) (λ p _. end_code (make p)) (λ p r h. ap key_of h.1 ∙ made p)
+abbrev Kind : ℕ → Request → Type 0
+Kind = IsKind request_text Fits kind
 
-  len_code : IsCode (λ r. (decimal (length (key_of r)) ++ 10 ∷ []) ++ (key_of r ++ ((10 ∷ []) ++ []))) (λ r. Within 1 LONGEST_KEY (length (key_of r)) × (Part (length (key_of r)) (key_of r) × (Unit {0} × (r ≡ make (key_of r))))) (λ bytes. number_at 1 LONGEST_KEY 10 bytes >>= λ len. piece_at len.0 len.1 >>= λ key. literal_at (10 ∷ []) key.1 >>= λ last. Ok (make key.0, last.1))
-  len_code =
-      joined (λ r. length (key_of r)) (λ n. decimal n ++ 10 ∷ []) (Within 1 LONGEST_KEY) (number_at 1 LONGEST_KEY 10) (λ r. key_of r ++ ((10 ∷ []) ++ [])) (λ k r. Part k (key_of r) × (Unit {0} × (r ≡ make (key_of r)))) (λ k bytes. piece_at k bytes >>= λ key. literal_at (10 ∷ []) key.1 >>= λ last. Ok (make key.0, last.1)) (number_code 1 LONGEST_KEY 10 (lit< tt) (lit≤ tt) (lit≤ tt) (lit< tt)) (λ k _. key_code k) (λ k r h. h.0.0)
+from_get : (r : Request) → Kind 0 r → (key : List ℕ) × (r ≡ Get key) × FitsKey key
+unfolding kind
+from_get (Get key) is = (key, refl, is.0)
+from_get _ is = absurd (omega (arith, is.1))
 
-  keyed_code : IsCode (λ r. verb ++ ((decimal (length (key_of r)) ++ 10 ∷ []) ++ (key_of r ++ ((10 ∷ []) ++ [])))) (λ r. Unit {0} × (Within 1 LONGEST_KEY (length (key_of r)) × (Part (length (key_of r)) (key_of r) × (Unit {0} × (r ≡ make (key_of r)))))) (λ bytes. literal_at verb bytes >>= λ begun. number_at 1 LONGEST_KEY 10 begun.1 >>= λ len. piece_at len.0 len.1 >>= λ key. literal_at (10 ∷ []) key.1 >>= λ last. Ok (make key.0, last.1))
-  keyed_code =
-      joined (λ r. tt) (λ _. verb) (λ _. Unit {0}) (literal_at verb) (λ r. (decimal (length (key_of r)) ++ 10 ∷ []) ++ (key_of r ++ ((10 ∷ []) ++ []))) (λ _ r. Within 1 LONGEST_KEY (length (key_of r)) × (Part (length (key_of r)) (key_of r) × (Unit {0} × (r ≡ make (key_of r))))) (λ _ bytes. number_at 1 LONGEST_KEY 10 bytes >>= λ len. piece_at len.0 len.1 >>= λ key. literal_at (10 ∷ []) key.1 >>= λ last. Ok (make key.0, last.1)) (literal_code verb) (λ _ _. len_code) (λ _ _ _. refl)
+from_put : (r : Request) → Kind 1 r → (pair : List ℕ × List ℕ) × (r ≡ Put pair.0 pair.1) × (FitsKey pair.0 × FitsValue pair.1)
+unfolding kind
+from_put (Put key value) is = ((key, value), refl, is.0)
+from_put _ is = absurd (omega (arith, is.1))
 
--- a PUT, its two numbers before its two pieces
-put_value_code : (key : List ℕ) (v : ℕ) → IsCode (λ r. value_of r ++ ((10 ∷ []) ++ [])) (λ r. Part v (value_of r) × (Unit {0} × (r ≡ Put key (value_of r)))) (λ bytes. piece_at v bytes >>= λ value. literal_at (10 ∷ []) value.1 >>= λ last. Ok (Put key value.0, last.1))
-put_value_code key v =
-    joined value_of (λ p. p) (Part v) (piece_at v) (λ r. (10 ∷ []) ++ []) (λ p r. Unit {0} × (r ≡ Put key p)) (λ p bytes. literal_at (10 ∷ []) bytes >>= λ last. Ok (Put key p, last.1)) (piece_code v) (λ p _. end_code (Put key p)) (λ p r h. ap value_of h.1)
+from_delete : (r : Request) → Kind 2 r → (key : List ℕ) × (r ≡ Delete key) × FitsKey key
+unfolding kind
+from_delete (Delete key) is = (key, refl, is.0)
+from_delete _ is = absurd (omega (arith, is.1))
 
-abbrev PutBody : ℕ → ℕ → Request → Type 0
-PutBody k v r = Part k (key_of r) × (Part v (value_of r) × (Unit {0} × (r ≡ Put (key_of r) (value_of r))))
+from_fold : (r : Request) → Kind 3 r → (u : Unit {0}) × (r ≡ Fold) × Unit {0}
+unfolding kind
+from_fold Fold is = (tt, refl, tt)
+from_fold _ is = absurd (omega (arith, is.1))
 
-abbrev body_text : Request → List ℕ
-body_text r = key_of r ++ (value_of r ++ ((10 ∷ []) ++ []))
+from_keys : (r : Request) → Kind 4 r → (u : Unit {0}) × (r ≡ Keys) × Unit {0}
+unfolding kind
+from_keys Keys is = (tt, refl, tt)
+from_keys _ is = absurd (omega (arith, is.1))
 
-abbrev body_at : ℕ → ℕ → List ℕ → Result (Request × List ℕ) Stop
-body_at k v bytes =
-    piece_at k bytes >>= λ key. piece_at v key.1 >>= λ value. literal_at (10 ∷ []) value.1 >>= λ last. Ok (Put key.0 value.0, last.1)
+from_sync : (r : Request) → Kind 5 r → (u : Unit {0}) × (r ≡ Sync) × Unit {0}
+unfolding kind
+from_sync Sync is = (tt, refl, tt)
+from_sync _ is = absurd (omega (arith, is.1))
 
-put_body_code : (k v : ℕ) → IsCode body_text (PutBody k v) (body_at k v)
-put_body_code k v =
-    joined key_of (λ p. p) (Part k) (piece_at k) (λ r. value_of r ++ ((10 ∷ []) ++ [])) (λ p r. Part v (value_of r) × (Unit {0} × (r ≡ Put p (value_of r)))) (λ p bytes. piece_at v bytes >>= λ value. literal_at (10 ∷ []) value.1 >>= λ last. Ok (Put p value.0, last.1)) (piece_code k) (λ p _. put_value_code p v) (λ p r h. ap key_of h.1.1)
+from_stat : (r : Request) → Kind 6 r → (u : Unit {0}) × (r ≡ Stat) × Unit {0}
+unfolding kind
+from_stat Stat is = (tt, refl, tt)
+from_stat _ is = absurd (omega (arith, is.1))
 
-put_value_len_code : (k : ℕ) → IsCode (λ r. (decimal (length (value_of r)) ++ 10 ∷ []) ++ body_text r) (λ r. Within 0 LONGEST_VALUE (length (value_of r)) × PutBody k (length (value_of r)) r) (λ bytes. number_at 0 LONGEST_VALUE 10 bytes >>= λ len. body_at k len.0 len.1)
-put_value_len_code k =
-    joined (λ r. length (value_of r)) (λ n. decimal n ++ 10 ∷ []) (Within 0 LONGEST_VALUE) (number_at 0 LONGEST_VALUE 10) body_text (λ v r. PutBody k v r) (λ v bytes. body_at k v bytes) (number_code 0 LONGEST_VALUE 10 (lit< tt) (lit≤ tt) (lit≤ tt) (lit< tt)) (λ v _. put_body_code k v) (λ v r h. h.1.0.0)
+from_quit : (r : Request) → Kind 7 r → (u : Unit {0}) × (r ≡ Quit) × Unit {0}
+unfolding kind
+from_quit Quit is = (tt, refl, tt)
+from_quit _ is = absurd (omega (arith, is.1))
 
-put_key_len_code : IsCode (λ r. (decimal (length (key_of r)) ++ 32 ∷ []) ++ ((decimal (length (value_of r)) ++ 10 ∷ []) ++ body_text r)) (λ r. Within 1 LONGEST_KEY (length (key_of r)) × (Within 0 LONGEST_VALUE (length (value_of r)) × PutBody (length (key_of r)) (length (value_of r)) r)) (λ bytes. number_at 1 LONGEST_KEY 32 bytes >>= λ key_len. number_at 0 LONGEST_VALUE 10 key_len.1 >>= λ len. body_at key_len.0 len.0 len.1)
-put_key_len_code =
-    joined (λ r. length (key_of r)) (λ n. decimal n ++ 32 ∷ []) (Within 1 LONGEST_KEY) (number_at 1 LONGEST_KEY 32) (λ r. (decimal (length (value_of r)) ++ 10 ∷ []) ++ body_text r) (λ k r. Within 0 LONGEST_VALUE (length (value_of r)) × PutBody k (length (value_of r)) r) (λ k bytes. number_at 0 LONGEST_VALUE 10 bytes >>= λ len. body_at k len.0 len.1) (number_code 1 LONGEST_KEY 32 (lit< tt) (lit≤ tt) (lit≤ tt) (lit< tt)) (λ k _. put_value_len_code k) (λ k r h. h.1.0.0)
+get_code : IsCode request_text (Kind 0) get_at
+unfolding kind request_text
+get_code = made_code Get request_text (Kind 0) (keyed_code (codes "GET ")) (λ key fit. (fit, refl)) from_get (λ key. refl)
 
-put_parts_code : IsCode (λ r. codes "PUT " ++ ((decimal (length (key_of r)) ++ 32 ∷ []) ++ ((decimal (length (value_of r)) ++ 10 ∷ []) ++ body_text r))) (λ r. Unit {0} × (Within 1 LONGEST_KEY (length (key_of r)) × (Within 0 LONGEST_VALUE (length (value_of r)) × PutBody (length (key_of r)) (length (value_of r)) r))) (λ bytes. literal_at (codes "PUT ") bytes >>= λ verb. number_at 1 LONGEST_KEY 32 verb.1 >>= λ key_len. number_at 0 LONGEST_VALUE 10 key_len.1 >>= λ len. body_at key_len.0 len.0 len.1)
-put_parts_code =
-    joined (λ r. tt) (λ _. codes "PUT ") (λ _. Unit {0}) (literal_at (codes "PUT ")) (λ r. (decimal (length (key_of r)) ++ 32 ∷ []) ++ ((decimal (length (value_of r)) ++ 10 ∷ []) ++ body_text r)) (λ _ r. Within 1 LONGEST_KEY (length (key_of r)) × (Within 0 LONGEST_VALUE (length (value_of r)) × PutBody (length (key_of r)) (length (value_of r)) r)) (λ _ bytes. number_at 1 LONGEST_KEY 32 bytes >>= λ key_len. number_at 0 LONGEST_VALUE 10 key_len.1 >>= λ len. body_at key_len.0 len.0 len.1) (literal_code (codes "PUT ")) (λ _ _. put_key_len_code) (λ _ _ _. refl)
+put_code : IsCode request_text (Kind 1) put_at
+unfolding kind request_text
+put_code =
+    made_code (λ (pair : List ℕ × List ℕ). Put pair.0 pair.1) request_text (Kind 1) (paired_code (codes "PUT "))
+    (λ pair fit. (fit, refl)) from_put (λ pair. refl)
 
--- the requests of each kind
-abbrev FitsGet : Request → Type 0
-FitsGet (Get key) = FitsKey key
-FitsGet (Put key value) = ⊥
+delete_code : IsCode request_text (Kind 2) delete_at
+unfolding kind request_text
+delete_code = made_code Delete request_text (Kind 2) (keyed_code (codes "DEL ")) (λ key fit. (fit, refl)) from_delete (λ key. refl)
 
-abbrev FitsPut : Request → Type 0
-FitsPut (Get key) = ⊥
-FitsPut (Put key value) = FitsKey key × FitsValue value
+fold_code : IsCode request_text (Kind 3) (word_at (codes "FOLD\n") Fold)
+unfolding kind request_text
+fold_code = made_code (λ _. Fold) request_text (Kind 3) (literal_code (codes "FOLD\n")) (λ _ _. (tt, refl)) from_fold (λ _. refl)
 
-get_fits : (r : Request) → Unit {0} × (Within 1 LONGEST_KEY (length (key_of r)) × (Part (length (key_of r)) (key_of r) × (Unit {0} × (r ≡ Get (key_of r))))) → FitsGet r
-get_fits (Get key) h = record { bounds = record { some = h.1.0.0; short = h.1.0.1 }; bytes = h.1.1.0.1 }
-get_fits (Put key value) h = let wrong = h.1.1.1.1 in cc
+keys_code : IsCode request_text (Kind 4) (word_at (codes "KEYS\n") Keys)
+unfolding kind request_text
+keys_code = made_code (λ _. Keys) request_text (Kind 4) (literal_code (codes "KEYS\n")) (λ _ _. (tt, refl)) from_keys (λ _. refl)
 
-get_from : (r : Request) → FitsGet r → Unit {0} × (Within 1 LONGEST_KEY (length (key_of r)) × (Part (length (key_of r)) (key_of r) × (Unit {0} × (r ≡ Get (key_of r)))))
-get_from (Get key) fit = (tt, ((fit.bounds.some, fit.bounds.short), ((refl, fit.bytes), (tt, refl))))
-get_from (Put key value) fit = absurd fit
+sync_code : IsCode request_text (Kind 5) (word_at (codes "SYNC\n") Sync)
+unfolding kind request_text
+sync_code = made_code (λ _. Sync) request_text (Kind 5) (literal_code (codes "SYNC\n")) (λ _ _. (tt, refl)) from_sync (λ _. refl)
 
-get_same : (r : Request) → FitsGet r → codes "GET " ++ ((decimal (length (key_of r)) ++ 10 ∷ []) ++ (key_of r ++ ((10 ∷ []) ++ []))) ≡ request_text r
-unfolding request_text
-get_same (Get key) fit = refl
-get_same (Put key value) fit = absurd fit
+stat_code : IsCode request_text (Kind 6) (word_at (codes "STAT\n") Stat)
+unfolding kind request_text
+stat_code = made_code (λ _. Stat) request_text (Kind 6) (literal_code (codes "STAT\n")) (λ _ _. (tt, refl)) from_stat (λ _. refl)
 
-get_code : IsCode request_text FitsGet get_at
-unfolding get_at
-get_code = recoded get_fits get_from get_same (keyed_code (codes "GET ") Get (λ key. refl))
+quit_code : IsCode request_text (Kind 7) (word_at (codes "QUIT\n") Quit)
+unfolding kind request_text
+quit_code = made_code (λ _. Quit) request_text (Kind 7) (literal_code (codes "QUIT\n")) (λ _ _. (tt, refl)) from_quit (λ _. refl)
 
-put_fits : (r : Request) → Unit {0} × (Within 1 LONGEST_KEY (length (key_of r)) × (Within 0 LONGEST_VALUE (length (value_of r)) × PutBody (length (key_of r)) (length (value_of r)) r)) → FitsPut r
-put_fits (Get key) h = let wrong = h.1.1.1.1.1.1 in cc
-put_fits (Put key value) h =
-    (record { bounds = record { some = h.1.0.0; short = h.1.0.1 }; bytes = h.1.1.1.0.1 }, record { bounds = h.1.1.0.1; bytes = h.1.1.1.1.0.1 })
+last : (r : Request) → kind r ≤ 7
+unfolding kind
+last (Get key) = omega arith
+last _ = omega arith
 
-put_from : (r : Request) → FitsPut r → Unit {0} × (Within 1 LONGEST_KEY (length (key_of r)) × (Within 0 LONGEST_VALUE (length (value_of r)) × PutBody (length (key_of r)) (length (value_of r)) r))
-put_from (Get key) fit = absurd fit
-put_from (Put key value) fit =
-    (tt, ((fit.0.bounds.some, fit.0.bounds.short), ((omega arith, fit.1.bounds), ((refl, fit.0.bytes), ((refl, fit.1.bytes), (tt, refl))))))
+-- a word of a later kind
+word_refused : (text : List ℕ) (value : Request) (bytes : List ℕ) → literal_at text bytes ≡ Err Bad → word_at text value bytes ≡ Err Bad
+word_refused text value bytes refused = rw refused
 
--- the parts of a PUT, one after the other
-put_joined : (k v key value : List ℕ) → (k ++ 32 ∷ []) ++ ((v ++ 10 ∷ []) ++ (key ++ (value ++ 10 ∷ []))) ≡ (((k ++ 32 ∷ []) ++ v) ++ 10 ∷ []) ++ ((key ++ value) ++ 10 ∷ [])
-put_joined k v key value = simp append_assoc
+abbrev From : ℕ → Request → Type 0
+From = IsFrom request_text Fits kind
 
-put_same : (r : Request) → FitsPut r → codes "PUT " ++ ((decimal (length (key_of r)) ++ 32 ∷ []) ++ ((decimal (length (value_of r)) ++ 10 ∷ []) ++ body_text r)) ≡ request_text r
-unfolding request_text
-put_same (Get key) fit = absurd fit
-put_same (Put key value) fit =
-    ap (λ t. codes "PUT " ++ t) (put_joined (decimal (length key)) (decimal (length value)) key value)
+command_code : IsCode request_text (From 3) command_at
+unfolding command_at words word
+command_code =
+    from_code request_text Fits kind 3 fold_code
+    (from_code request_text Fits kind 4 keys_code
+    (from_code request_text Fits kind 5 sync_code
+    (from_code request_text Fits kind 6 stat_code (last_code request_text Fits kind 7 last quit_code)
+    (λ r rest later. word_refused (codes "STAT\n") Stat (request_text r ++ rest) (apart 6 r rest later)))
+    (λ r rest later. word_refused (codes "SYNC\n") Sync (request_text r ++ rest) (apart 5 r rest later)))
+    (λ r rest later. word_refused (codes "KEYS\n") Keys (request_text r ++ rest) (apart 4 r rest later)))
+    (λ r rest later. word_refused (codes "FOLD\n") Fold (request_text r ++ rest) (apart 3 r rest later))
 
-put_code : IsCode request_text FitsPut put_at
-unfolding put_at
-put_code = recoded put_fits put_from put_same put_parts_code
+get_apart : (r : Request) (rest : List ℕ) → 0 < kind r → get_at (request_text r ++ rest) ≡ Err Bad
+unfolding words word
+get_apart r rest later = rw (keyed_refused (codes "GET ") (request_text r ++ rest) (apart 0 r rest later)) refl
 
--- what begins with another verb
-get_apart : (r : Request) (rest : List ℕ) → FitsPut r → get_at (request_text r ++ rest) ≡ Err Bad
-unfolding get_at literal_at request_text
-get_apart (Get key) rest fit = absurd fit
-get_apart (Put key value) rest fit = refl
+put_apart : (r : Request) (rest : List ℕ) → 1 < kind r → put_at (request_text r ++ rest) ≡ Err Bad
+unfolding words word
+put_apart r rest later = rw (paired_refused (codes "PUT ") (request_text r ++ rest) (apart 1 r rest later)) refl
 
-fits_one : (r : Request) → FitsGet r ⊎ FitsPut r → Fits r
-fits_one (Get key) (inl fit) = fit
-fits_one (Get key) (inr fit) = absurd fit
-fits_one (Put key value) (inl fit) = absurd fit
-fits_one (Put key value) (inr fit) = fit
-
-one_fits : (r : Request) → Fits r → FitsGet r ⊎ FitsPut r
-one_fits (Get key) fit = inl fit
-one_fits (Put key value) fit = inr fit
+delete_apart : (r : Request) (rest : List ℕ) → 2 < kind r → delete_at (request_text r ++ rest) ≡ Err Bad
+unfolding words word
+delete_apart r rest later = rw (keyed_refused (codes "DEL ") (request_text r ++ rest) (apart 2 r rest later)) refl
 
 pub request_code : IsCode request_text Fits request_at
 unfolding request_at
 request_code =
-    recoded fits_one one_fits (λ r _. refl) (either_code request_text FitsGet FitsPut get_at put_at get_code put_code get_apart)
+    recoded (λ r from. from.0) (λ r fit. (fit, omega arith)) (λ r _. refl)
+    (from_code request_text Fits kind 0 get_code
+    (from_code request_text Fits kind 1 put_code (from_code request_text Fits kind 2 delete_code command_code delete_apart) put_apart)
+    get_apart)

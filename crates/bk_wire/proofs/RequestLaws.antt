@@ -57,7 +57,7 @@ same_standing stream r s xs ys one two =
 pub some_text : (r : Request) → 0 < length (request_text r)
 unfolding request_text
 some_text (Get key) = omega arith
-some_text (Put key value) = omega arith
+some_text _ = omega arith
 
 pub shorter : (stream : List ℕ) (r : Request) (rest : List ℕ) → StandsIn stream r rest → length rest < length stream
 shorter stream r rest stands =

@@ -4,7 +4,7 @@ use Rattle.std.specs.Prelude.{◌≡◌, ℕ, ◌+◌, ◌-◌, ◌*◌, Bool, c
 use Rattle.std.specs.Char.{is_ascii_digit}
 use Rattle.bk_base.specs.declared.limits.TheConstants.{LONGEST_KEY, LONGEST_VALUE}
 use Rattle.bk_base.specs.declared.requests.Request.{Request}
-use Rattle.bk_base.specs.declared.requests.Request.TheVariants.{Get, Put}
+use Rattle.bk_base.specs.declared.requests.Request.TheVariants.{Get, Put, Delete, Fold, Keys, Sync, Stat, Quit}
 use Rattle.bk_wire.specs.declared.stops.Stop.{Stop}
 use Rattle.bk_wire.specs.declared.stops.Stop.TheVariants.{Short, Bad}
 
@@ -45,23 +45,33 @@ number_at least most end (b ∷ bytes) = cond (begins least most b) (digits_at m
 unfoldable pub piece_at : ℕ → List ℕ → Result (List ℕ × List ℕ) Stop
 piece_at n bytes = cond (nat_lt (length bytes) n) (Err Short) (Ok (take n bytes, drop n bytes))
 
-unfoldable pub get_at : List ℕ → Result (Request × List ℕ) Stop
-get_at bytes = do
-  verb ← literal_at (codes "GET ") bytes
-  len ← number_at 1 LONGEST_KEY 10 verb.1
+-- behind this verb the length of a key, and the key
+unfoldable pub keyed_at : List ℕ → List ℕ → Result (List ℕ × List ℕ) Stop
+keyed_at verb bytes = do
+  begun ← literal_at verb bytes
+  len ← number_at 1 LONGEST_KEY 10 begun.1
   key ← piece_at len.0 len.1
   last ← literal_at (10 ∷ []) key.1
-  Ok (Get key.0, last.1)
+  Ok (key.0, last.1)
 
-unfoldable pub put_at : List ℕ → Result (Request × List ℕ) Stop
-put_at bytes = do
-  verb ← literal_at (codes "PUT ") bytes
-  key_len ← number_at 1 LONGEST_KEY 32 verb.1
+-- behind this verb the lengths of a key and of a value, and both
+unfoldable pub paired_at : List ℕ → List ℕ → Result ((List ℕ × List ℕ) × List ℕ) Stop
+paired_at verb bytes = do
+  begun ← literal_at verb bytes
+  key_len ← number_at 1 LONGEST_KEY 32 begun.1
   value_len ← number_at 0 LONGEST_VALUE 10 key_len.1
   key ← piece_at key_len.0 value_len.1
   value ← piece_at value_len.0 key.1
   last ← literal_at (10 ∷ []) value.1
-  Ok (Put key.0 value.0, last.1)
+  Ok ((key.0, value.0), last.1)
+
+-- what is made of what was read
+abbrev pub made : {A B : Type 0} → (B → A) → Result (B × List ℕ) Stop → Result (A × List ℕ) Stop
+made make read = read >>= λ x. Ok (make x.0, x.1)
+
+-- a word that is all of a line
+abbrev pub word_at : {A : Type 0} → List ℕ → A → List ℕ → Result (A × List ℕ) Stop
+word_at text value bytes = made (λ _. value) (literal_at text bytes)
 
 -- the second, where the first isn't there however the bytes go on
 abbrev pub or_else : {A : Type 0} → Result A Stop → Result A Stop → Result A Stop
@@ -69,5 +79,21 @@ or_else (Ok x) other = Ok x
 or_else (Err Short) other = Err Short
 or_else (Err Bad) other = other
 
+abbrev pub get_at : List ℕ → Result (Request × List ℕ) Stop
+get_at bytes = made Get (keyed_at (codes "GET ") bytes)
+
+abbrev pub put_at : List ℕ → Result (Request × List ℕ) Stop
+put_at bytes = made (λ pair. Put pair.0 pair.1) (paired_at (codes "PUT ") bytes)
+
+abbrev pub delete_at : List ℕ → Result (Request × List ℕ) Stop
+delete_at bytes = made Delete (keyed_at (codes "DEL ") bytes)
+
+unfoldable pub command_at : List ℕ → Result (Request × List ℕ) Stop
+command_at bytes =
+    or_else (word_at (codes "FOLD\n") Fold bytes)
+    (or_else (word_at (codes "KEYS\n") Keys bytes)
+    (or_else (word_at (codes "SYNC\n") Sync bytes)
+    (or_else (word_at (codes "STAT\n") Stat bytes) (word_at (codes "QUIT\n") Quit bytes))))
+
 unfoldable pub request_at : List ℕ → Result (Request × List ℕ) Stop
-request_at bytes = or_else (get_at bytes) (put_at bytes)
+request_at bytes = or_else (get_at bytes) (or_else (put_at bytes) (or_else (delete_at bytes) (command_at bytes)))

@@ -1,9 +1,10 @@
 //! The parts of a request: words, numbers and pieces. Each reader gives what it read and the bytes
 //! after it.
 ghost use Rattle.std.specs.Prelude.{◌≡◌, ◌+◌, ◌-◌, ◌*◌, ◌≤◌, ◌<◌};
-ghost use Rattle.bk_wire.specs.Reading.{Gives, literal_at, goes_on, number_at, piece_at};
+ghost use Rattle.bk_wire.specs.Reading.{Gives, goes_on, keyed_at, literal_at, number_at, paired_at, piece_at};
 
 use crate::stops::Stop;
+use bk_base::limits::{LONGEST_KEY, LONGEST_VALUE};
 
 /// Reads this text.
 #[tactic(auto, unfolding(crate::specs::Reading::literal_at))]
@@ -70,4 +71,33 @@ pub fn piece(len: u32, bytes: &[u8]) -> Result<(&[u8], &[u8]), Stop>
         return Err(Stop::Short);
     }
     Ok(bytes.split_at(len as usize))
+}
+
+/// Reads this verb, a key's length and the key.
+#[tactic(auto, unfolding(crate::specs::Reading::keyed_at))]
+pub fn keyed<'a>(verb: &[u8], bytes: &'a [u8]) -> Result<(&'a [u8], &'a [u8]), Stop>
+    ensures { Gives (λ x. (x.0.now, x.1.now)) result (keyed_at verb.now bytes.now) }
+{
+    let rest = literal(verb, bytes)?;
+    let (len, rest) = number(1, LONGEST_KEY, b'\n', rest)?;
+    let (key, rest) = piece(len, rest)?;
+    let rest = literal(b"\n", rest)?;
+    Ok((key, rest))
+}
+
+/// A key and a value, where they were found.
+pub type Pair<'a> = (&'a [u8], &'a [u8]);
+
+/// Reads this verb, the lengths of a key and of a value, and both.
+#[tactic(auto, unfolding(crate::specs::Reading::paired_at))]
+pub fn paired<'a>(verb: &[u8], bytes: &'a [u8]) -> Result<(Pair<'a>, &'a [u8]), Stop>
+    ensures { Gives (λ x. ((x.0.0.now, x.0.1.now), x.1.now)) result (paired_at verb.now bytes.now) }
+{
+    let rest = literal(verb, bytes)?;
+    let (key_len, rest) = number(1, LONGEST_KEY, b' ', rest)?;
+    let (value_len, rest) = number(0, LONGEST_VALUE, b'\n', rest)?;
+    let (key, rest) = piece(key_len, rest)?;
+    let (value, rest) = piece(value_len, rest)?;
+    let rest = literal(b"\n", rest)?;
+    Ok(((key, value), rest))
 }

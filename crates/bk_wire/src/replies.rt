@@ -1,10 +1,13 @@
 //! The texts of replies.
-ghost use Rattle.std.specs.Prelude.{◌≡◌, ◌+◌, ◌≤◌, ◌++◌, ◌∷◌, [], length, OnOk, OnErr, vec_len, vec_capacity};
+ghost use Rattle.std.specs.Prelude.{◌≡◌, ◌+◌, ◌≤◌, ◌++◌, ◌∷◌, [], length, OnOk, OnErr, codes, vec_len, vec_capacity};
 ghost use Rattle.std.specs.Fmt.{decimal};
-ghost use Rattle.bk_laws.specs.Wire.{reply_text};
+ghost use Rattle.bk_laws.specs.Wire.{line, numbered, and_hex, and_number, full_word, reply_text};
 
-use crate::digits::Digits;
-use bk_base::{Memory, Reply};
+use crate::digits::{Digits, hex};
+use bk_base::{Full, Memory, Reply};
+
+/// How many bytes a number and the byte behind it have at the most.
+const NUMBER: usize = 40;
 
 /// Appends within the capacity.
 fn append(out: &mut Vec<u8>, bytes: &[u8])
@@ -16,16 +19,16 @@ fn append(out: &mut Vec<u8>, bytes: &[u8])
     out.extend_from_slice(bytes).unwrap();
 }
 
-/// Appends a line of a word and a number, within the capacity.
-fn append_line(out: &mut Vec<u8>, word: &[u8], number: u64)
-    requires { vec_len out.old + (length word.now + 21) ≤ vec_capacity out.old }
-    ensures items { out.new.items ≡ out.old.items ++ (word.now ++ (decimal number ++ 10 ∷ [])) }
-    ensures len { vec_len out.new ≤ vec_len out.old + (length word.now + 21) }
+/// Appends some bytes and the digits of a number, within the capacity.
+#[tactic(auto, using(std::proofs::lemmas::List::append_assoc))]
+fn append_number(out: &mut Vec<u8>, front: &[u8], number: u128)
+    requires { vec_len out.old + (length front.now + 39) ≤ vec_capacity out.old }
+    ensures items { out.new.items ≡ out.old.items ++ (front.now ++ decimal number) }
+    ensures len { vec_len out.new ≤ vec_len out.old + (length front.now + 39) }
     ensures capacity { vec_capacity out.old ≤ vec_capacity out.new }
 {
-    append(out, word);
+    append(out, front);
     append(out, Digits::of(number).as_slice());
-    append(out, b"\n");
 }
 
 /// Makes room for this many more bytes.
@@ -36,28 +39,182 @@ fn reserve(out: &mut Vec<u8>, len: usize) -> Result<(), Memory>
     out.reserve(len).map_err(|_| Memory)
 }
 
+/// Writes a text that is always the same.
+fn write_text(out: &mut Vec<u8>, text: &[u8]) -> Result<(), Memory>
+    ensures ok { OnOk result (out.new.items ≡ out.old.items ++ text.now) }
+    ensures err { OnErr result (out.new.items ≡ out.old.items) }
+{
+    reserve(out, text.len())?;
+    append(out, text);
+    Ok(())
+}
+
+/// Writes a line of a word and a number.
+#[tactic(auto, using(std::proofs::lemmas::List::append_assoc))]
+fn write_number(out: &mut Vec<u8>, word: &[u8], number: u128) -> Result<(), Memory>
+    requires { length word.now ≤ 16 }
+    ensures ok { OnOk result (out.new.items ≡ out.old.items ++ line (numbered word.now number)) }
+    ensures err { OnErr result (out.new.items ≡ out.old.items) }
+{
+    reserve(out, word.len() + NUMBER)?;
+    append_number(out, word, number);
+    append(out, b"\n");
+    Ok(())
+}
+
+/// Writes a line of a word and the length of some bytes, and the bytes.
+#[tactic(auto, using(std::proofs::lemmas::List::append_assoc))]
+fn write_piece(out: &mut Vec<u8>, word: &[u8], bytes: &[u8]) -> Result<(), Memory>
+    requires word { length word.now ≤ 16 }
+    requires bytes { length bytes.now ≤ 16777216 }
+    ensures ok { OnOk result (out.new.items
+        ≡ out.old.items ++ (line (numbered word.now (length bytes.now)) ++ line bytes.now)) }
+    ensures err { OnErr result (out.new.items ≡ out.old.items) }
+{
+    reserve(out, word.len() + NUMBER + bytes.len() + 1)?;
+    append_number(out, word, bytes.len() as u128);
+    append(out, b"\n");
+    append(out, bytes);
+    append(out, b"\n");
+    Ok(())
+}
+
+/// Writes a pair of a fold.
+#[tactic(auto, using(std::proofs::lemmas::List::append_assoc))]
+fn write_pair(out: &mut Vec<u8>, key: &[u8], value: &[u8]) -> Result<(), Memory>
+    requires { (length key.now ≤ 65535) × (length value.now ≤ 16777216) }
+    ensures ok { OnOk result (out.new.items ≡ out.old.items
+        ++ (line (and_number (numbered (codes "PAIR ") (length key.now)) (length value.now))
+        ++ line (key.now ++ value.now))) }
+    ensures err { OnErr result (out.new.items ≡ out.old.items) }
+{
+    reserve(out, 5 + NUMBER + NUMBER + key.len() + value.len() + 1)?;
+    append_number(out, b"PAIR ", key.len() as u128);
+    append_number(out, b" ", value.len() as u128);
+    append(out, b"\n");
+    append(out, key);
+    append(out, value);
+    append(out, b"\n");
+    Ok(())
+}
+
+/// Writes how many files a merge read and how many it wrote.
+#[tactic(auto, using(std::proofs::lemmas::List::append_assoc))]
+fn write_merged(out: &mut Vec<u8>, inputs: u32, outputs: u32) -> Result<(), Memory>
+    ensures ok { OnOk result (out.new.items
+        ≡ out.old.items ++ line (and_number (numbered (codes "MERGED ") inputs) outputs)) }
+    ensures err { OnErr result (out.new.items ≡ out.old.items) }
+{
+    reserve(out, 7 + NUMBER + NUMBER)?;
+    append_number(out, b"MERGED ", inputs.into());
+    append_number(out, b" ", outputs.into());
+    append(out, b"\n");
+    Ok(())
+}
+
+/// Writes that a file of `total` bytes ended at `at`.
+#[tactic(auto, using(std::proofs::lemmas::List::append_assoc))]
+fn write_cut(out: &mut Vec<u8>, file: u32, total: u64, at: u64) -> Result<(), Memory>
+    ensures ok { OnOk result (out.new.items
+        ≡ out.old.items ++ line (and_number (and_number (numbered (codes "CUT ") file) total) at)) }
+    ensures err { OnErr result (out.new.items ≡ out.old.items) }
+{
+    reserve(out, 4 + NUMBER + NUMBER + NUMBER)?;
+    append_number(out, b"CUT ", file.into());
+    append_number(out, b" ", total.into());
+    append_number(out, b" ", at.into());
+    append(out, b"\n");
+    Ok(())
+}
+
+/// Writes the sums of a store.
+#[tactic(auto, using(std::proofs::lemmas::List::append_assoc))]
+fn write_stat(
+    out: &mut Vec<u8>,
+    keys: u64,
+    files: u64,
+    total: u128,
+    live: u128,
+) -> Result<(), Memory>
+    ensures ok { OnOk result (out.new.items ≡ out.old.items ++ line
+        (and_number (and_number (and_number (numbered (codes "STAT ") keys) files) total) live)) }
+    ensures err { OnErr result (out.new.items ≡ out.old.items) }
+{
+    reserve(out, 5 + NUMBER + NUMBER + NUMBER + NUMBER)?;
+    append_number(out, b"STAT ", keys.into());
+    append_number(out, b" ", files.into());
+    append_number(out, b" ", total);
+    append_number(out, b" ", live);
+    append(out, b"\n");
+    Ok(())
+}
+
+/// Writes where a record is damaged, the checksum that was kept of it and the one that it has.
+#[tactic(auto, using(std::proofs::lemmas::List::append_assoc))]
+fn write_damaged(out: &mut Vec<u8>, file: u32, at: u64, kept: u32, found: u32) -> Result<(), Memory>
+    ensures ok { OnOk result (out.new.items ≡ out.old.items ++ line
+        (and_hex (and_hex (and_number (numbered (codes "DAMAGED ") file) at) kept) found)) }
+    ensures err { OnErr result (out.new.items ≡ out.old.items) }
+{
+    reserve(out, 8 + NUMBER + NUMBER + 9 + 9 + 1)?;
+    append_number(out, b"DAMAGED ", file.into());
+    append_number(out, b" ", at.into());
+    append(out, b" ");
+    append(out, &hex(kept));
+    append(out, b" ");
+    append(out, &hex(found));
+    append(out, b"\n");
+    Ok(())
+}
+
+/// Writes what a store has no more room for.
+fn write_full(out: &mut Vec<u8>, full: Full) -> Result<(), Memory>
+    ensures ok { OnOk result (out.new.items ≡ out.old.items ++ line (codes "FULL " ++ full_word full)) }
+    ensures err { OnErr result (out.new.items ≡ out.old.items) }
+{
+    match full {
+        Full::Seq => write_text(out, b"FULL seq\n"),
+        Full::Files => write_text(out, b"FULL files\n"),
+        Full::Folds => write_text(out, b"FULL folds\n"),
+        Full::Turns => write_text(out, b"FULL turns\n"),
+    }
+}
+
 /// Writes a reply at the end of `out`. Out of memory, `out` is as it was.
-#[tactic(auto, using(std::proofs::lemmas::List::append_assoc), unfolding(bk_laws::specs::Wire::reply_text))]
+#[tactic(auto, unfolding(bk_laws::specs::Wire::reply_text))]
 pub fn write_reply(reply: &Reply, out: &mut Vec<u8>) -> Result<(), Memory>
     ensures ok { OnOk result (out.new.items ≡ out.old.items ++ reply_text reply.now) }
     ensures err { OnErr result (out.new.items ≡ out.old.items) }
 {
     match reply {
-        Reply::Value(value) => {
-            let value = value.bytes();
-            reserve(out, value.len() + 28)?;
-            append_line(out, b"VALUE ", value.len() as u64);
-            append(out, value);
-            append(out, b"\n");
-        }
-        Reply::Absent => {
-            reserve(out, 5)?;
-            append(out, b"NONE\n");
-        }
-        Reply::Numbered(seq) => {
-            reserve(out, 24)?;
-            append_line(out, b"OK ", seq.0);
-        }
+        Reply::Value(value) => write_piece(out, b"VALUE ", value.bytes()),
+        Reply::Absent => write_text(out, b"NONE\n"),
+        Reply::Numbered(seq) => write_number(out, b"OK ", seq.0.into()),
+        Reply::Pair { key, value } => write_pair(out, key.bytes(), value.bytes()),
+        Reply::Key(key) => write_piece(out, b"KEY ", key.bytes()),
+        Reply::End(lines) => write_number(out, b"END ", (*lines).into()),
+        Reply::Synced(seq) => write_number(out, b"SYNCED ", seq.0.into()),
+        Reply::Merged { inputs, outputs } => write_merged(out, *inputs, *outputs),
+        Reply::Held(files) => write_number(out, b"HELD ", (*files).into()),
+        Reply::Job(id) => write_number(out, b"JOB ", id.0.into()),
+        Reply::Stat {
+            keys,
+            files,
+            total,
+            live,
+        } => write_stat(out, *keys, *files, *total, *live),
+        Reply::Bye => write_text(out, b"BYE\n"),
+        Reply::Memory => write_text(out, b"MEMORY\n"),
+        Reply::Disk => write_text(out, b"DISK\n"),
+        Reply::Read => write_text(out, b"READ\n"),
+        Reply::Damaged {
+            file,
+            at,
+            kept,
+            found,
+        } => write_damaged(out, file.0, *at, *kept, *found),
+        Reply::Cut { file, total, at } => write_cut(out, file.0, *total, *at),
+        Reply::Full(full) => write_full(out, *full),
+        Reply::Syntax(offset) => write_number(out, b"SYNTAX ", (*offset).into()),
     }
-    Ok(())
 }

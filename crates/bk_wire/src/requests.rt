@@ -1,13 +1,12 @@
 //! Finds the request at the front of some bytes.
-ghost use Rattle.bk_wire.specs.Reading.{Gives, get_at, put_at, request_at};
+ghost use Rattle.bk_wire.specs.Reading.{Gives, command_at, delete_at, get_at, put_at, request_at, word_at};
 ghost use Rattle.bk_wire.specs.Found.{request_of, Finds};
 ghost use Rattle.bk_base.specs.Bounds.{IsKey, IsValue};
 ghost use Rattle.bk_laws.specs.Wire.{Fits};
 ghost use Rattle.std.specs.Prelude.{◌≡◌, IfOk};
 
-use crate::fields::{literal, number, piece};
+use crate::fields::{keyed, literal, paired};
 use crate::stops::Stop;
-use bk_base::limits::{LONGEST_KEY, LONGEST_VALUE};
 use bk_base::{Key, Memory, Request, Value};
 use std::alloc::Global;
 
@@ -16,6 +15,12 @@ use std::alloc::Global;
 pub enum Found<'a> {
     Get(&'a [u8]),
     Put(&'a [u8], &'a [u8]),
+    Delete(&'a [u8]),
+    Fold,
+    Keys,
+    Sync,
+    Stat,
+    Quit,
 }
 
 impl Found<'_> {
@@ -30,6 +35,12 @@ impl Found<'_> {
                 let key = owned_key(alloc, key)?;
                 Ok(Request::Put(key, owned_value(alloc, value)?))
             }
+            Found::Delete(key) => Ok(Request::Delete(owned_key(alloc, key)?)),
+            Found::Fold => Ok(Request::Fold),
+            Found::Keys => Ok(Request::Keys),
+            Found::Sync => Ok(Request::Sync),
+            Found::Stat => Ok(Request::Stat),
+            Found::Quit => Ok(Request::Quit),
         }
     }
 }
@@ -50,28 +61,58 @@ fn owned_value(alloc: Global, bytes: &[u8]) -> Result<Value, Memory>
     Ok(Value::new(bytes).unwrap())
 }
 
-#[tactic(auto, unfolding(crate::specs::Reading::get_at))]
 fn get(bytes: &[u8]) -> Result<(Found<'_>, &[u8]), Stop>
     ensures { Gives (λ x. (request_of x.0, x.1.now)) result (get_at bytes.now) }
 {
-    let rest = literal(b"GET ", bytes)?;
-    let (len, rest) = number(1, LONGEST_KEY, b'\n', rest)?;
-    let (key, rest) = piece(len, rest)?;
-    let rest = literal(b"\n", rest)?;
+    let (key, rest) = keyed(b"GET ", bytes)?;
     Ok((Found::Get(key), rest))
 }
 
-#[tactic(auto, unfolding(crate::specs::Reading::put_at))]
 fn put(bytes: &[u8]) -> Result<(Found<'_>, &[u8]), Stop>
     ensures { Gives (λ x. (request_of x.0, x.1.now)) result (put_at bytes.now) }
 {
-    let rest = literal(b"PUT ", bytes)?;
-    let (key_len, rest) = number(1, LONGEST_KEY, b' ', rest)?;
-    let (value_len, rest) = number(0, LONGEST_VALUE, b'\n', rest)?;
-    let (key, rest) = piece(key_len, rest)?;
-    let (value, rest) = piece(value_len, rest)?;
-    let rest = literal(b"\n", rest)?;
+    let ((key, value), rest) = paired(b"PUT ", bytes)?;
     Ok((Found::Put(key, value), rest))
+}
+
+fn delete(bytes: &[u8]) -> Result<(Found<'_>, &[u8]), Stop>
+    ensures { Gives (λ x. (request_of x.0, x.1.now)) result (delete_at bytes.now) }
+{
+    let (key, rest) = keyed(b"DEL ", bytes)?;
+    Ok((Found::Delete(key), rest))
+}
+
+/// Reads a request that is one word.
+fn word<'a>(text: &[u8], found: Found<'a>, bytes: &'a [u8]) -> Result<(Found<'a>, &'a [u8]), Stop>
+    ensures { Gives (λ x. (request_of x.0, x.1.now)) result
+        (word_at text.now (request_of found.entry) bytes.now) }
+{
+    let rest = literal(text, bytes)?;
+    Ok((found, rest))
+}
+
+/// Reads one of the requests that are one word.
+#[tactic(auto, unfolding(crate::specs::Reading::command_at))]
+fn command(bytes: &[u8]) -> Result<(Found<'_>, &[u8]), Stop>
+    ensures { Gives (λ x. (request_of x.0, x.1.now)) result (command_at bytes.now) }
+{
+    match word(b"FOLD\n", Found::Fold, bytes) {
+        Err(Stop::Bad) => {}
+        read => return read,
+    }
+    match word(b"KEYS\n", Found::Keys, bytes) {
+        Err(Stop::Bad) => {}
+        read => return read,
+    }
+    match word(b"SYNC\n", Found::Sync, bytes) {
+        Err(Stop::Bad) => {}
+        read => return read,
+    }
+    match word(b"STAT\n", Found::Stat, bytes) {
+        Err(Stop::Bad) => {}
+        read => return read,
+    }
+    word(b"QUIT\n", Found::Quit, bytes)
 }
 
 /// Reads one request.
@@ -80,9 +121,18 @@ pub fn request(bytes: &[u8]) -> Result<(Found<'_>, &[u8]), Stop>
     ensures { Gives (λ x. (request_of x.0, x.1.now)) result (request_at bytes.now) }
 {
     match get(bytes) {
-        Err(Stop::Bad) => put(bytes),
-        other => other,
+        Err(Stop::Bad) => {}
+        read => return read,
     }
+    match put(bytes) {
+        Err(Stop::Bad) => {}
+        read => return read,
+    }
+    match delete(bytes) {
+        Err(Stop::Bad) => {}
+        read => return read,
+    }
+    command(bytes)
 }
 
 /// Finds the request at the front, and how many bytes it has.

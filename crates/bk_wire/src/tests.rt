@@ -23,6 +23,12 @@ fn describe(request: &Request, text: &mut Vec<u8>) -> Result<(), AllocError> {
             text,
             &[b"put ", key.bytes(), b"=", value.bytes(), b";"],
         ),
+        Request::Delete(key) => append(text, &[b"delete ", key.bytes(), b";"]),
+        Request::Fold => append(text, &[b"fold;"]),
+        Request::Keys => append(text, &[b"keys;"]),
+        Request::Sync => append(text, &[b"sync;"]),
+        Request::Stat => append(text, &[b"stat;"]),
+        Request::Quit => append(text, &[b"quit;"]),
     }
 }
 
@@ -67,7 +73,7 @@ fn reads(rt: &impl Abort, alloc: Global, stream: &[u8], answers: &[u8]) -> Resul
 
 #[test]
 fn reads_requests_however_they_are_cut(rt: HostRuntime) -> Result<(), Fail> {
-    let rows: [(&[u8], &[u8]); 24] = [
+    let rows: [(&[u8], &[u8]); 34] = [
         (b"", b""),
         (b"GET 1\na\n", b"get a;"),
         (b"PUT 1 1\na1\nGET 1\na\n", b"put a=1;get a;"),
@@ -95,6 +101,16 @@ fn reads_requests_however_they_are_cut(rt: HostRuntime) -> Result<(), Fail> {
         (b"GET 1\nab\n", b"bad 0"),
         (b"PUT 1 1\na12", b"bad 0"),
         (b"\nGET 1\na\n", b"bad 0"),
+        (b"DEL 1\na\nFOLD\nKEYS\n", b"delete a;fold;keys;"),
+        (b"SYNC\nSTAT\nQUIT\nGET 1\na\n", b"sync;stat;quit;get a;"),
+        (b"DEL 3\nab", b"rest 0"),
+        (b"SYNC\nSTA", b"sync;rest 5"),
+        (b"DEL 0\n", b"bad 0"),
+        (b"FOLD \n", b"bad 0"),
+        (b"STATS\n", b"bad 0"),
+        (b"QUIT\r\n", b"bad 0"),
+        (b"SYNC\nMERGE\n", b"sync;bad 5"),
+        (b"sync\n", b"bad 0"),
     ];
     for (stream, answers) in rows {
         reads(&rt, rt.alloc(), stream, answers)?;
