@@ -243,7 +243,7 @@ impl Desk {
     /// An empty desk.
     fn new(alloc: Global) -> Result<Desk, Memory>
         ensures reader { IfOk result
-            (λ desk. desk.reader ≡ record { rest = []; offset = 0; most = LONGEST_SESSION }) }
+            (λ desk. desk.reader ≡ record { rest = []; offset = 0; most = LONGEST_SESSION; held = 0 }) }
         ensures replies { IfOk result (λ desk. desk.replies.items ≡ []) }
         ensures piece { IfOk result (λ desk. 0 < length desk.piece.items) }
     {

@@ -4,3 +4,4 @@ pub mod FieldCodes
 pub mod PartCodes
 pub mod RequestCodes
 pub mod RequestLaws
+pub mod RoomLaws

@@ -1,4 +1,5 @@
 pub mod Reading
+pub mod Room
 pub mod Found
 pub mod Stream
 pub mod Answers

@@ -119,6 +119,24 @@ fn reads_requests_however_they_are_cut(rt: HostRuntime) -> Result<(), Fail> {
 }
 
 #[test]
+fn reads_what_came_into_its_own_buffer(rt: HostRuntime) -> Result<(), Fail> {
+    let stream = b"PUT 1 3\nabcd\nGET 1\na\nDEL 1\nb\n";
+    let mut reader = Reader::new(rt.alloc(), 100);
+    let mut text = Vec::new(rt.alloc());
+    for piece in stream.chunks(5) {
+        let room = reader.room().min(8) as usize;
+        assert!(rt; piece.len() <= room);
+        let mut bytes = reader.lend(room)?;
+        let held = bytes.len() - room;
+        bytes[held..held + piece.len()].copy_from_slice(piece);
+        reader.give_back(bytes, held + piece.len());
+        read_all(&mut reader, &mut text)?;
+    }
+    assert_eq!(rt; text.as_slice(), b"put a=bcd;get a;delete b;".as_slice());
+    Ok(())
+}
+
+#[test]
 fn writes_replies(rt: HostRuntime) -> Result<(), Fail> {
     let mut out = Vec::new(rt.alloc());
     let value = Value::new(b"1".to_vec(rt.alloc())?).ok().ok_or("too long")?;

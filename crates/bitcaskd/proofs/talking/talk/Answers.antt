@@ -7,7 +7,7 @@ use Rattle.bitcaskd.proofs.talking.talk.Goals as goal
 
 pub returns-in_default-clause-stopped : goal.returns-in_default-clause-stopped
 returns-in_default-clause-stopped g c =
-    let stream : Stream = record { rest = []; offset = 0; most = 0 } in
+    let stream : Stream = record { rest = []; offset = 0; most = 0; held = 0 } in
     memory_ends _ _ _ stream [] (g.K.Sink.written c.args.sink.now) (g.K.Sink.faults c.args.sink.now) []
     (nothing_yet _ _ stream c.requires.holds refl (omega arith))
     (inl (λ tells. sym (append-nil (g.K.Sink.written c.args.sink.now))))
