@@ -398,7 +398,13 @@ refused_ends tells start old site before after gathered written faults served re
     let turn = turn_of request r.now r.step [] in
     record {
       talk = record { served = served; cut = turn ∷ [] };
-      said = record { each = so.each; last = (record { fits = stands.fits; offered = offered; silent = refl; made = r.made }, tt); one = omega arith };
+      said = record {
+        each = so.each;
+        last =
+            (record { fits = stands.fits; offered = offered; silent = refl; made = r.made }, tt);
+        one =
+            omega arith;
+      };
       served = tt;
       whole = so.whole;
       reads = λ t. (
@@ -420,7 +426,8 @@ refused_ends tells start old site before after gathered written faults served re
           r.leaves t log holds in (
             later,
             tried,
-            subst (λ (steps : List Step). LeadTo steps later) (sym (flat_map-snoc (λ (t : Exchange). t.steps) served turn))
+            subst (λ (steps : List Step). LeadTo steps later)
+                (sym (flat_map-snoc (λ (t : Exchange). t.steps) served turn))
                 (leads_on (steps_of served) log r.step later leads next),
             few,
             image,
@@ -452,10 +459,14 @@ pub refusal_ends : (refusal : Refusal) (tells : Telling) (start old : Scene) (si
     → IsOffered request → Refused tells.disk tells.clock request old.site site
     → Flushed tells.sink old.written written gathered old.sink_faults faults
     → Stopped tells start (with_sink (at_site old site) written faults) (status_of refusal)
-refusal_ends refused_memory tells start old site before after gathered written faults served request so stands offered r flushed =
+refusal_ends refused_memory tells start old site before after gathered written faults served request
+    so stands offered r flushed =
     refused_ends tells start old site before after gathered written faults served request so stands offered r flushed
-refusal_ends refused_disk tells start old site before after gathered written faults served request so stands offered r flushed =
-    by_disk tells start _ (refused_ends tells start old site before after gathered written faults served request so stands offered r flushed)
+refusal_ends refused_disk tells start old site before after gathered written faults served request so
+    stands offered r flushed =
+    by_disk tells start _
+    (refused_ends tells start old site before after gathered written faults served request so
+    stands offered r flushed)
 
 -- Memory ran out before a request was served.
 pub memory_ends : (tells : Telling) (start now : Scene) (stream : Stream) (gathered written : List ℕ)
@@ -488,10 +499,13 @@ NeverOffered stream = (more : List ℕ) → NoneOffered (stream ++ more)
 pub bad_never : (stream : List ℕ) → IsBad stream → NeverOffered stream
 bad_never stream never more r rest stands offered = never more r rest stands
 
-pub other_never : (stream : List ℕ) (r : Request) (after : List ℕ) → StandsIn stream r after → (IsOffered r → ⊥) → NeverOffered stream
+pub other_never : (stream : List ℕ) (r : Request) (after : List ℕ) → StandsIn stream r after
+    → (IsOffered r → ⊥) → NeverOffered stream
 other_never stream r after stands not_offered more s rest other offered =
     let whole = ap (λ t. t ++ more) stands.whole ∙ append_assoc (request_text r) after more in
-    let same = same_standing (stream ++ more) r s (after ++ more) rest (record { fits = stands.fits; whole = whole }) other in
+    let same =
+    same_standing (stream ++ more) r s (after ++ more) rest
+    (record { fits = stands.fits; whole = whole }) other in
     not_offered (subst IsOffered (sym same.0) offered)
 
 -- such a stream isn't empty
@@ -501,8 +515,10 @@ fits_a = record {
   bytes = λ i. grind (arith, common_steps);
 }
 
-pub bad_left : (tells : Telling) (start now : Scene) (stream : Stream) (gathered : List ℕ) (served : List Exchange) → SoFar tells start now stream gathered served
-    → NeverOffered stream.rest → IsTrue tells.source → Reads NotBuilt (drop start.taken start.whole) [] (whole_talk served)
+pub bad_left : (tells : Telling) (start now : Scene) (stream : Stream) (gathered : List ℕ)
+    (served : List Exchange) → SoFar tells start now stream gathered served
+    → NeverOffered stream.rest → IsTrue tells.source
+    → Reads NotBuilt (drop start.taken start.whole) [] (whole_talk served)
 unfolding some_left
 bad_left tells start now stream gathered served so never t =
     let (rest, read) = some_left tells start now stream gathered served so t in
@@ -510,7 +526,9 @@ bad_left tells start now stream gathered served so never t =
   where
     some : (front back : List ℕ) → NeverOffered front → 0 < length (front ++ back)
     some (x ∷ xs) back never = omega arith
-    some [] back never = absurd (never (request_text (Get (97 ∷ []))) (Get (97 ∷ [])) [] (record { fits = fits_a; whole = sym (append-nil (request_text (Get (97 ∷ [])))) }) tt)
+    some [] back never =
+        absurd (never (request_text (Get (97 ∷ []))) (Get (97 ∷ [])) []
+        (record { fits = fits_a; whole = sym (append-nil (request_text (Get (97 ∷ [])))) }) tt)
 
 -- The input ended: within a request, or behind the last one.
 pub input_left : (tells : Telling) (start now : Scene) (stream : Stream) (gathered : List ℕ)
@@ -585,12 +603,14 @@ asks_on (Some status) dt kt ct request old new written faults gathered more late
     (sink_ends tells start (at_site scene new) after more later faults_later turns
     (goes_on tells start scene new before after gathered more served request so stands same a) some.1)
 
-pub asks_no_more : (refusal : Refusal) (dt kt ct : Bool) (request : Request) (old new : Site) (written : List ℕ) (faults : ℕ) (gathered : List ℕ) (later : List ℕ) (faults_later : ℕ) (left : List ℕ)
+pub asks_no_more : (refusal : Refusal) (dt kt ct : Bool) (request : Request) (old new : Site)
+    (written : List ℕ) (faults : ℕ) (gathered : List ℕ) (later : List ℕ) (faults_later : ℕ) (left : List ℕ)
     → IsOffered request → Refused dt ct request old new → Flushed kt written later gathered faults faults_later
     → Asks (Some (status_of refusal)) dt kt ct request old written faults gathered new later faults_later left
 asks_no_more refusal dt kt ct request old new written faults gathered later faults_later left offered r flushed =
     λ st whole took before after stands same start served so.
-    refusal_ends refusal (telling dt st kt ct) start (scene_of old whole took written faults) new before after gathered later faults_later served request so stands offered r flushed
+    refusal_ends refusal (telling dt st kt ct) start (scene_of old whole took written faults) new
+    before after gathered later faults_later served request so stands offered r flushed
 
 -- What a run does where it reads on.
 pub reads_no_more : (dt st kt ct : Bool) (site : Site) (whole : List ℕ) (took : ℕ) (written : List ℕ)
@@ -613,10 +633,13 @@ emptied tells start site whole took written faults gathered later faults_later s
     moves_out tells start (scene_of site whole took written faults) stream gathered [] later
     faults_later served so (λ t. (gathered, wrote t, sym (append-nil gathered))) rises
 
-pub stops_at_bad : (dt st kt ct : Bool) (site : Site) (whole : List ℕ) (took : ℕ) (written : List ℕ) (faults : ℕ) (gathered later : List ℕ) (faults_later : ℕ) (stream after : Stream) (left : List ℕ)
+pub stops_at_bad : (dt st kt ct : Bool) (site : Site) (whole : List ℕ) (took : ℕ) (written : List ℕ)
+    (faults : ℕ) (gathered later : List ℕ) (faults_later : ℕ) (stream after : Stream) (left : List ℕ)
     → NeverOffered stream.rest → (IsTrue kt → Wrote written later gathered) → faults ≤ faults_later
-    → Turns (Some NotBuilt) (telling dt st kt ct) (scene_of site whole took written faults) stream gathered (scene_of site whole took later faults_later) after left
-stops_at_bad dt st kt ct site whole took written faults gathered later faults_later stream after left never wrote rises =
+    → Turns (Some NotBuilt) (telling dt st kt ct) (scene_of site whole took written faults) stream
+    gathered (scene_of site whole took later faults_later) after left
+stops_at_bad dt st kt ct site whole took written faults gathered later faults_later stream after left
+    never wrote rises =
     λ start served so.
     let so' =
     emptied (telling dt st kt ct) start site whole took written faults gathered later faults_later
@@ -728,14 +751,24 @@ pub left_some : (P : Type 0) (Q : ℕ → Type 0) (o : Option ℕ) (b : Bool) �
 left_some P Q None b h same is = let wrong : false ≡ true = same ∙ ap not is in absurd (cc wrong)
 left_some P Q (Some n) b h same is = (n, h)
 
-pub bad_turn : (r : Option Status) (dt st kt ct : Bool) (site : Site) (whole : List ℕ) (took : ℕ) (written : List ℕ) (faults : ℕ) (gathered later : List ℕ) (faults_later : ℕ) (stream after : Stream) (left : List ℕ)
+pub bad_turn : (r : Option Status) (dt st kt ct : Bool) (site : Site) (whole : List ℕ) (took : ℕ)
+    (written : List ℕ) (faults : ℕ) (gathered later : List ℕ) (faults_later : ℕ)
+    (stream after : Stream) (left : List ℕ)
     → NeverOffered stream.rest → StopsAtBad r kt written faults gathered later faults_later
-    → Turns r (telling dt st kt ct) (scene_of site whole took written faults) stream gathered (scene_of site whole took later faults_later) after left
-bad_turn r dt st kt ct site whole took written faults gathered later faults_later stream after left never (inl (is, wrote, rises)) =
-    subst (λ (o : Option Status). Turns o (telling dt st kt ct) (scene_of site whole took written faults) stream gathered (scene_of site whole took later faults_later) after left) (sym is)
-    (stops_at_bad dt st kt ct site whole took written faults gathered later faults_later stream after left never wrote rises)
-bad_turn r dt st kt ct site whole took written faults gathered later faults_later stream after left never (inr (is, failed, rises)) =
-    subst (λ (o : Option Status). Turns o (telling dt st kt ct) (scene_of site whole took written faults) stream gathered (scene_of site whole took later faults_later) after left) (sym is)
+    → Turns r (telling dt st kt ct) (scene_of site whole took written faults) stream gathered
+    (scene_of site whole took later faults_later) after left
+bad_turn r dt st kt ct site whole took written faults gathered later faults_later stream after left
+    never (inl (is, wrote, rises)) =
+    subst (λ (o : Option Status). Turns o (telling dt st kt ct)
+    (scene_of site whole took written faults) stream gathered
+    (scene_of site whole took later faults_later) after left) (sym is)
+    (stops_at_bad dt st kt ct site whole took written faults gathered later faults_later stream after
+    left never wrote rises)
+bad_turn r dt st kt ct site whole took written faults gathered later faults_later stream after left
+    never (inr (is, failed, rises)) =
+    subst (λ (o : Option Status). Turns o (telling dt st kt ct)
+    (scene_of site whole took written faults) stream gathered
+    (scene_of site whole took later faults_later) after left) (sym is)
     (reads_no_more dt st kt ct site whole took written faults gathered later faults_later stream after left failed)
 
 -- each turn leaves less to be done

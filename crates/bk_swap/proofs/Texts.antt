@@ -31,7 +31,9 @@ number_at-text bytes at n rest below long is =
 
 abbrev in_parts : SwapList → ℕ → List ℕ
 in_parts l check =
-    to_be_bytes w32 (length l.inputs) ++ (ids_text l.inputs ++ (to_be_bytes w32 (length l.outputs) ++ (ids_text l.outputs ++ to_be_bytes w32 check)))
+    to_be_bytes w32 (length l.inputs)
+    ++ (ids_text l.inputs
+    ++ (to_be_bytes w32 (length l.outputs) ++ (ids_text l.outputs ++ to_be_bytes w32 check)))
 
 regroup : (a b c d e : List ℕ) → (a ++ b) ++ (c ++ d) ++ e ≡ a ++ (b ++ (c ++ (d ++ e)))
 regroup a b c d e = simp append_assoc
@@ -39,19 +41,26 @@ regroup a b c d e = simp append_assoc
 parts : (l : SwapList) (check : ℕ) → lists_text l ++ to_be_bytes w32 check ≡ in_parts l check
 unfolding lists_text
 parts l check =
-    regroup (to_be_bytes w32 (length l.inputs)) (ids_text l.inputs) (to_be_bytes w32 (length l.outputs)) (ids_text l.outputs) (to_be_bytes w32 check)
+    regroup (to_be_bytes w32 (length l.inputs)) (ids_text l.inputs)
+    (to_be_bytes w32 (length l.outputs)) (ids_text l.outputs) (to_be_bytes w32 check)
 
 length-lists_text : (l : SwapList)
     → length (lists_text l) ≡ 8 + 4 * length l.inputs + 4 * length l.outputs
 unfolding lists_text
 length-lists_text l =
-    omega (arith, length-append (counted_text l.inputs) (counted_text l.outputs), length-ids_text l.inputs, length-ids_text l.outputs)
+    omega (
+      arith,
+      length-append (counted_text l.inputs) (counted_text l.outputs),
+      length-ids_text l.inputs,
+      length-ids_text l.outputs,
+    )
 
 AreBytes-lists_text : (l : SwapList) → AreBytes (lists_text l)
 unfolding lists_text
 AreBytes-lists_text l =
     let counted : (ids : List ℕ) → AreBytes (counted_text ids) =
-    λ ids. AreBytes-append (to_be_bytes w32 (length ids)) (ids_text ids) (AreBytes-to_be_bytes_4 (length ids)) (AreBytes-ids_text ids) in
+    λ ids. AreBytes-append (to_be_bytes w32 (length ids)) (ids_text ids)
+    (AreBytes-to_be_bytes_4 (length ids)) (AreBytes-ids_text ids) in
     AreBytes-append (counted_text l.inputs) (counted_text l.outputs) (counted l.inputs) (counted l.outputs)
 
 check_below : (l : SwapList) → crc_of (lists_text l) < 2 ^ 32
@@ -104,7 +113,9 @@ parsed bytes l check fits below is =
     let second : ids_in (take (4 * outputs_count bytes) (drop (8 + 4 * inputs_count bytes) bytes)) ≡ l.outputs =
     (λ i. ids_in (take (4 * outputs i) (drop (8 + 4 * inputs i) bytes)))
     ∙ ap (λ (x : List ℕ). ids_in (take (4 * m) x)) at_outputs
-    ∙ ap ids_in (take_at (ids_text l.outputs) (to_be_bytes w32 check) (4 * m) (length-ids_text l.outputs)) ∙ ids_in-text l.outputs fits.outputs.1 in
+    ∙ ap ids_in
+    (take_at (ids_text l.outputs) (to_be_bytes w32 check) (4 * m) (length-ids_text l.outputs))
+    ∙ ids_in-text l.outputs fits.outputs.1 in
     record {
       long = long;
       inputs = inputs;
@@ -166,7 +177,8 @@ stand bytes fits long =
     says n (take (4 * n) (drop 4 bytes)) (AreBytes-take (4 * n) (drop 4 bytes) (AreBytes-drop 4 bytes fits))
     (omega (arith, long, length-take (4 * n) (drop 4 bytes), length-drop 4 bytes)) in
     let second : Says (take (4 * m) (drop (8 + 4 * n) bytes)) m =
-    says m (take (4 * m) (drop (8 + 4 * n) bytes)) (AreBytes-take (4 * m) (drop (8 + 4 * n) bytes) (AreBytes-drop (8 + 4 * n) bytes fits))
+    says m (take (4 * m) (drop (8 + 4 * n) bytes))
+    (AreBytes-take (4 * m) (drop (8 + 4 * n) bytes) (AreBytes-drop (8 + 4 * n) bytes fits))
     (omega (arith, long, length-take (4 * m) (drop (8 + 4 * n) bytes), length-drop (8 + 4 * n) bytes)) in
     let a = to_be_bytes w32 n in
     let b = ids_text l.inputs in
@@ -211,7 +223,8 @@ is_whole bytes fits long same =
     ∙ take_at lists (drop end bytes) end lists_len in
     let check : to_be_bytes w32 (crc_of lists) ≡ drop end bytes =
     ap (λ (x : List ℕ). to_be_bytes w32 (crc_of x)) (sym covered) ∙ ap (to_be_bytes w32) (sym same)
-    ∙ to_be_bytes-from_be_bytes_4 (drop end bytes) (omega (arith, length-drop end bytes, long)) (AreBytes-drop end bytes fits)
+    ∙ to_be_bytes-from_be_bytes_4 (drop end bytes) (omega (arith, length-drop end bytes, long))
+    (AreBytes-drop end bytes fits)
     ∙ take_all 4 (drop end bytes) (omega (arith, length-drop end bytes, long)) in
     record { fits = s.fits; is = whole ∙ ap (λ (x : List ℕ). lists ++ x) (sym check) }
 

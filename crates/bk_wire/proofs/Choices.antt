@@ -9,7 +9,11 @@ use Rattle.bk_wire.specs.Reading.{◌>>=◌, literal_at, made, or_else}
 use Rattle.bk_wire.proofs.Codes.{IsCode, chosen, same_found, bind_ok, bind_err, recoded, either_code}
 
 -- what is read is made into another value, by a code for the values that are made so
-module _ {A B : Type 0} (make : B → A) {text1 : B → List ℕ} {fits1 : B → Type 0} {read1 : List ℕ → Result (B × List ℕ) Stop} (text : A → List ℕ) (fits : A → Type 0) (code : IsCode text1 fits1 read1) (to : (b : B) → fits1 b → fits (make b)) (from : (a : A) → fits a → (b : B) × (a ≡ make b) × fits1 b) (same : (b : B) → text1 b ≡ text (make b)) where
+module _ {A B : Type 0} (make : B → A) {text1 : B → List ℕ} {fits1 : B → Type 0}
+    {read1 : List ℕ → Result (B × List ℕ) Stop} (text : A → List ℕ) (fits : A → Type 0)
+    (code : IsCode text1 fits1 read1) (to : (b : B) → fits1 b → fits (make b))
+    (from : (a : A) → fits a → (b : B) × (a ≡ make b) × fits1 b)
+    (same : (b : B) → text1 b ≡ text (make b)) where
   made_whole : (bytes : List ℕ) (a : A) (rest : List ℕ) → AreBytes bytes → made make (read1 bytes) ≡ Ok (a, rest)
       → fits a × (bytes ≡ text a ++ rest)
   made_whole bytes a rest all e =
@@ -27,11 +31,13 @@ module _ {A B : Type 0} (make : B → A) {text1 : B → List ℕ} {fits1 : B →
       → (a : A) × (more : List ℕ) × fits a × (bytes ++ more ≡ text a)
   made_short bytes all e =
       elim (bind_err (read1 bytes) (λ x. Ok (make x.0, x.1)) Short e) [
-        | inl first ↦ (let (b, more, fit, split) = code.short bytes all first in (make b, more, to b fit, split ∙ same b))
+        | inl first ↦ (let (b, more, fit, split) =
+            code.short bytes all first in (make b, more, to b fit, split ∙ same b))
         | inr second ↦ (let wrong = second.2 in cc)
       ]
 
-  made_stays : (bytes more : List ℕ) → AreBytes bytes → made make (read1 bytes) ≡ Err Bad → made make (read1 (bytes ++ more)) ≡ Err Bad
+  made_stays : (bytes more : List ℕ) → AreBytes bytes → made make (read1 bytes) ≡ Err Bad
+      → made make (read1 (bytes ++ more)) ≡ Err Bad
   made_stays bytes more all e =
       elim (bind_err (read1 bytes) (λ x. Ok (make x.0, x.1)) Bad e) [
         | inl first ↦ rw (code.stays bytes more all first)
@@ -68,17 +74,21 @@ module _ {A : Type 0} (text : A → List ℕ) (fits : A → Type 0) (kind : A �
       ]
 
   -- a kind, or a later one
-  pub from_code : (n : ℕ) {read1 read2 : List ℕ → Result (A × List ℕ) Stop} → IsCode text (IsKind n) read1 → IsCode text (IsFrom (n + 1)) read2
+  pub from_code : (n : ℕ) {read1 read2 : List ℕ → Result (A × List ℕ) Stop}
+      → IsCode text (IsKind n) read1 → IsCode text (IsFrom (n + 1)) read2
       → ((a : A) (rest : List ℕ) → n < kind a → read1 (text a ++ rest) ≡ Err Bad)
       → IsCode text (IsFrom n) (λ bytes. or_else (read1 bytes) (read2 bytes))
   from_code n {read1} {read2} one two apart =
       recoded (from_kind n) (to_kind n) (λ a _. refl)
-      (either_code text (IsKind n) (IsFrom (n + 1)) read1 read2 one two (λ a rest fit. apart a rest (omega (arith, fit.1))))
+      (either_code text (IsKind n) (IsFrom (n + 1)) read1 read2 one two
+      (λ a rest fit. apart a rest (omega (arith, fit.1))))
 
   -- the last kind
-  pub last_code : (n : ℕ) {read : List ℕ → Result (A × List ℕ) Stop} → ((a : A) → kind a ≤ n) → IsCode text (IsKind n) read → IsCode text (IsFrom n) read
+  pub last_code : (n : ℕ) {read : List ℕ → Result (A × List ℕ) Stop} → ((a : A) → kind a ≤ n)
+      → IsCode text (IsKind n) read → IsCode text (IsFrom n) read
   last_code n last one =
-      recoded (λ a is. (is.0, omega (arith, is.1))) (λ a from. (from.0, omega (arith, from.1, last a))) (λ a _. refl) one
+      recoded (λ a is. (is.0, omega (arith, is.1)))
+      (λ a from. (from.0, omega (arith, from.1, last a))) (λ a _. refl) one
 
 -- ---- texts that differ
 

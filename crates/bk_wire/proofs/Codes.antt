@@ -7,11 +7,14 @@ use Rattle.bk_wire.specs.declared.stops.Stop.{Stop}
 use Rattle.bk_wire.specs.declared.stops.Stop.TheVariants.{Short, Bad}
 use Rattle.bk_wire.specs.Reading.{◌>>=◌, or_else}
 
-pub record IsCode {A : Type 0} (text : A → List ℕ) (fits : A → Type 0) (read : List ℕ → Result (A × List ℕ) Stop) : Type 0 where
+pub record IsCode {A : Type 0} (text : A → List ℕ) (fits : A → Type 0)
+    (read : List ℕ → Result (A × List ℕ) Stop) : Type 0 where
   pub some : (a : A) × fits a
-  pub whole : (bytes : List ℕ) (a : A) (rest : List ℕ) → AreBytes bytes → read bytes ≡ Ok (a, rest) → fits a × (bytes ≡ text a ++ rest)
+  pub whole : (bytes : List ℕ) (a : A) (rest : List ℕ) → AreBytes bytes → read bytes ≡ Ok (a, rest)
+      → fits a × (bytes ≡ text a ++ rest)
   pub again : (a : A) (rest : List ℕ) → fits a → read (text a ++ rest) ≡ Ok (a, rest)
-  pub short : (bytes : List ℕ) → AreBytes bytes → read bytes ≡ Err Short → (a : A) × (more : List ℕ) × fits a × (bytes ++ more ≡ text a)
+  pub short : (bytes : List ℕ) → AreBytes bytes → read bytes ≡ Err Short → (a : A) × (more : List ℕ)
+      × fits a × (bytes ++ more ≡ text a)
   pub stays : (bytes more : List ℕ) → AreBytes bytes → read bytes ≡ Err Bad → read (bytes ++ more) ≡ Err Bad
 
 -- which way a test went
@@ -19,17 +22,20 @@ pub chosen : {A : Type 0} (b : Bool) (x y z : A) → cond b x y ≡ z → ((b �
 chosen true x y z e = inl (refl, e)
 chosen false x y z e = inr (refl, e)
 
-pub same_found : {A : Type 0} (a b : A) (xs ys : List ℕ) → ◌≡◌ {A = Result (A × List ℕ) Stop} (Ok (a, xs)) (Ok (b, ys)) → (a ≡ b) × (xs ≡ ys)
+pub same_found : {A : Type 0} (a b : A) (xs ys : List ℕ)
+    → ◌≡◌ {A = Result (A × List ℕ) Stop} (Ok (a, xs)) (Ok (b, ys)) → (a ≡ b) × (xs ≡ ys)
 same_found {A} a b xs ys e =
     let pair : ◌≡◌ {A = A × List ℕ} (a, xs) (b, ys) = cc in
     (ap (λ (p : A × List ℕ). p.0) pair, ap (λ (p : A × List ℕ). p.1) pair)
 
 -- where the first of two steps stopped, or what it read
-pub bind_ok : {A B : Type 0} (r : Result A Stop) (f : A → Result B Stop) (y : B) → (r >>= f) ≡ Ok y → (x : A) × (r ≡ Ok x) × (f x ≡ Ok y)
+pub bind_ok : {A B : Type 0} (r : Result A Stop) (f : A → Result B Stop) (y : B) → (r >>= f) ≡ Ok y
+    → (x : A) × (r ≡ Ok x) × (f x ≡ Ok y)
 bind_ok (Ok x) f y e = (x, refl, e)
 bind_ok (Err stop) f y e = cc
 
-pub bind_err : {A B : Type 0} (r : Result A Stop) (f : A → Result B Stop) (stop : Stop) → (r >>= f) ≡ Err stop → (r ≡ Err stop) ⊎ ((x : A) × (r ≡ Ok x) × (f x ≡ Err stop))
+pub bind_err : {A B : Type 0} (r : Result A Stop) (f : A → Result B Stop) (stop : Stop)
+    → (r >>= f) ≡ Err stop → (r ≡ Err stop) ⊎ ((x : A) × (r ≡ Ok x) × (f x ≡ Err stop))
 bind_err (Ok x) f stop e = inr (x, refl, e)
 bind_err (Err other) f stop e =
     let same : other ≡ stop = cc in
@@ -47,51 +53,81 @@ done_code {A} a = record {
 
 -- One code after another. What is read last is the whole value: the first code reads a view of it, and the
 -- second is a code for the values of that view.
-module _ {A B : Type 0} (view : A → B) (text1 : B → List ℕ) (fits1 : B → Type 0) (read1 : List ℕ → Result (B × List ℕ) Stop) (text2 : A → List ℕ) (fits2 : B → A → Type 0) (read2 : B → List ℕ → Result (A × List ℕ) Stop) (one : IsCode text1 fits1 read1) (two : (b : B) → fits1 b → IsCode text2 (fits2 b) (read2 b)) (tied : (b : B) (a : A) → fits2 b a → view a ≡ b) where
-  joined_whole : (bytes : List ℕ) (a : A) (rest : List ℕ) → AreBytes bytes → (read1 bytes >>= λ x. read2 x.0 x.1) ≡ Ok (a, rest) → (fits1 (view a) × fits2 (view a) a) × (bytes ≡ (text1 (view a) ++ text2 a) ++ rest)
+module _ {A B : Type 0} (view : A → B) (text1 : B → List ℕ) (fits1 : B → Type 0)
+    (read1 : List ℕ → Result (B × List ℕ) Stop) (text2 : A → List ℕ) (fits2 : B → A → Type 0)
+    (read2 : B → List ℕ → Result (A × List ℕ) Stop) (one : IsCode text1 fits1 read1)
+    (two : (b : B) → fits1 b → IsCode text2 (fits2 b) (read2 b))
+    (tied : (b : B) (a : A) → fits2 b a → view a ≡ b) where
+  joined_whole : (bytes : List ℕ) (a : A) (rest : List ℕ) → AreBytes bytes
+      → (read1 bytes >>= λ x. read2 x.0 x.1) ≡ Ok (a, rest) → (fits1 (view a) × fits2 (view a) a)
+      × (bytes ≡ (text1 (view a) ++ text2 a) ++ rest)
   joined_whole bytes a rest all e =
       let (x, first, second) = bind_ok (read1 bytes) (λ x. read2 x.0 x.1) (a, rest) e in
       let (fit1, split1) = one.whole bytes x.0 x.1 all first in
-      let (fit2, split2) = (two x.0 fit1).whole x.1 a rest (AreBytes-back (text1 x.0) x.1 (subst (λ bs. AreBytes bs) split1 all)) second in
+      let (fit2, split2) =
+      (two x.0 fit1).whole x.1 a rest
+      (AreBytes-back (text1 x.0) x.1 (subst (λ bs. AreBytes bs) split1 all)) second in
       let same = tied x.0 a fit2 in
       rw same ((fit1, fit2), split1 ∙ ap (λ r. text1 x.0 ++ r) split2 ∙ sym (append_assoc (text1 x.0) (text2 a) rest))
 
-  joined_again : (a : A) (rest : List ℕ) → fits1 (view a) × fits2 (view a) a → (read1 ((text1 (view a) ++ text2 a) ++ rest) >>= λ x. read2 x.0 x.1) ≡ Ok (a, rest)
+  joined_again : (a : A) (rest : List ℕ) → fits1 (view a) × fits2 (view a) a
+      → (read1 ((text1 (view a) ++ text2 a) ++ rest) >>= λ x. read2 x.0 x.1) ≡ Ok (a, rest)
   joined_again a rest fit =
       rw (append_assoc (text1 (view a)) (text2 a) rest, one.again (view a) (text2 a ++ rest) fit.0)
       ((two (view a) fit.0).again a rest fit.1)
 
-  joined_short : (bytes : List ℕ) → AreBytes bytes → (read1 bytes >>= λ x. read2 x.0 x.1) ≡ Err Short → (a : A) × (more : List ℕ) × (fits1 (view a) × fits2 (view a) a) × (bytes ++ more ≡ text1 (view a) ++ text2 a)
+  joined_short : (bytes : List ℕ) → AreBytes bytes → (read1 bytes >>= λ x. read2 x.0 x.1) ≡ Err Short
+      → (a : A) × (more : List ℕ) × (fits1 (view a) × fits2 (view a) a)
+      × (bytes ++ more ≡ text1 (view a) ++ text2 a)
   joined_short bytes all e =
       elim (bind_err (read1 bytes) (λ x. read2 x.0 x.1) Short e) [
         | inl first ↦ at_first (one.short bytes all first)
         | inr second ↦ at_second second.0 second.1 second.2
       ]
     where
-      at_first : (b : B) × (more : List ℕ) × fits1 b × (bytes ++ more ≡ text1 b) → (a : A) × (more : List ℕ) × (fits1 (view a) × fits2 (view a) a) × (bytes ++ more ≡ text1 (view a) ++ text2 a)
+      at_first : (b : B) × (more : List ℕ) × fits1 b × (bytes ++ more ≡ text1 b) → (a : A)
+          × (more : List ℕ) × (fits1 (view a) × fits2 (view a) a)
+          × (bytes ++ more ≡ text1 (view a) ++ text2 a)
       at_first (b, more, fit1, split) =
           let (a, fit2) = (two b fit1).some in
-          let same = tied b a fit2 in
-          (a, more ++ text2 a, rw same (fit1, fit2), rw same (sym (append_assoc bytes more (text2 a)) ∙ ap (λ t. t ++ text2 a) split))
+          let same = tied b a fit2 in (
+            a,
+            more ++ text2 a,
+            rw same (fit1, fit2),
+            rw same (sym (append_assoc bytes more (text2 a)) ∙ ap (λ t. t ++ text2 a) split),
+          )
 
-      at_second : (x : B × List ℕ) → read1 bytes ≡ Ok x → read2 x.0 x.1 ≡ Err Short → (a : A) × (more : List ℕ) × (fits1 (view a) × fits2 (view a) a) × (bytes ++ more ≡ text1 (view a) ++ text2 a)
+      at_second : (x : B × List ℕ) → read1 bytes ≡ Ok x → read2 x.0 x.1 ≡ Err Short → (a : A)
+          × (more : List ℕ) × (fits1 (view a) × fits2 (view a) a)
+          × (bytes ++ more ≡ text1 (view a) ++ text2 a)
       at_second x first second =
           let (fit1, split1) = one.whole bytes x.0 x.1 all first in
-          let (a, more, fit2, split2) = (two x.0 fit1).short x.1 (AreBytes-back (text1 x.0) x.1 (subst (λ bs. AreBytes bs) split1 all)) second in
-          let same = tied x.0 a fit2 in
-          (a, more, rw same (fit1, fit2), rw same (ap (λ t. t ++ more) split1 ∙ append_assoc (text1 x.0) x.1 more ∙ ap (λ t. text1 x.0 ++ t) split2))
+          let (a, more, fit2, split2) =
+          (two x.0 fit1).short x.1
+          (AreBytes-back (text1 x.0) x.1 (subst (λ bs. AreBytes bs) split1 all)) second in
+          let same = tied x.0 a fit2 in (
+            a,
+            more,
+            rw same (fit1, fit2),
+            rw same (ap (λ t. t ++ more) split1 ∙ append_assoc (text1 x.0) x.1 more
+                ∙ ap (λ t. text1 x.0 ++ t) split2),
+          )
 
-  joined_stays : (bytes more : List ℕ) → AreBytes bytes → (read1 bytes >>= λ x. read2 x.0 x.1) ≡ Err Bad → (read1 (bytes ++ more) >>= λ x. read2 x.0 x.1) ≡ Err Bad
+  joined_stays : (bytes more : List ℕ) → AreBytes bytes
+      → (read1 bytes >>= λ x. read2 x.0 x.1) ≡ Err Bad
+      → (read1 (bytes ++ more) >>= λ x. read2 x.0 x.1) ≡ Err Bad
   joined_stays bytes more all e =
       elim (bind_err (read1 bytes) (λ x. read2 x.0 x.1) Bad e) [
         | inl first ↦ rw (one.stays bytes more all first)
         | inr second ↦ at_second second.0 second.1 second.2
       ]
     where
-      at_second : (x : B × List ℕ) → read1 bytes ≡ Ok x → read2 x.0 x.1 ≡ Err Bad → (read1 (bytes ++ more) >>= λ x. read2 x.0 x.1) ≡ Err Bad
+      at_second : (x : B × List ℕ) → read1 bytes ≡ Ok x → read2 x.0 x.1 ≡ Err Bad
+          → (read1 (bytes ++ more) >>= λ x. read2 x.0 x.1) ≡ Err Bad
       at_second x first second =
           let (fit1, split1) = one.whole bytes x.0 x.1 all first in
-          let whole : bytes ++ more ≡ text1 x.0 ++ (x.1 ++ more) = ap (λ t. t ++ more) split1 ∙ append_assoc (text1 x.0) x.1 more in
+          let whole : bytes ++ more ≡ text1 x.0 ++ (x.1 ++ more) = ap (λ t. t ++ more) split1
+          ∙ append_assoc (text1 x.0) x.1 more in
           rw (whole, one.again x.0 (x.1 ++ more) fit1)
           ((two x.0 fit1).stays x.1 more (AreBytes-back (text1 x.0) x.1 (subst (λ bs. AreBytes bs) split1 all)) second)
 
@@ -101,7 +137,8 @@ module _ {A B : Type 0} (view : A → B) (text1 : B → List ℕ) (fits1 : B →
       let (a, fit2) = (two b fit1).some in
       (a, rw (tied b a fit2) (fit1, fit2))
 
-  pub joined : IsCode (λ a. text1 (view a) ++ text2 a) (λ a. fits1 (view a) × fits2 (view a) a) (λ bytes. read1 bytes >>= λ x. read2 x.0 x.1)
+  pub joined : IsCode (λ a. text1 (view a) ++ text2 a) (λ a. fits1 (view a) × fits2 (view a) a)
+      (λ bytes. read1 bytes >>= λ x. read2 x.0 x.1)
   joined = record {
     some = joined_some;
     whole = joined_whole;
@@ -111,7 +148,10 @@ module _ {A B : Type 0} (view : A → B) (text1 : B → List ℕ) (fits1 : B →
   }
 
 -- the same code by other words for its texts and its values
-pub recoded : {A : Type 0} {text other_text : A → List ℕ} {fits other_fits : A → Type 0} {read : List ℕ → Result (A × List ℕ) Stop} → ((a : A) → fits a → other_fits a) → ((a : A) → other_fits a → fits a) → ((a : A) → other_fits a → text a ≡ other_text a) → IsCode text fits read → IsCode other_text other_fits read
+pub recoded : {A : Type 0} {text other_text : A → List ℕ} {fits other_fits : A → Type 0}
+    {read : List ℕ → Result (A × List ℕ) Stop} → ((a : A) → fits a → other_fits a)
+    → ((a : A) → other_fits a → fits a) → ((a : A) → other_fits a → text a ≡ other_text a)
+    → IsCode text fits read → IsCode other_text other_fits read
 recoded {A} {text} {other_text} {fits} {other_fits} {read} to from same code = record {
   some = (code.some.0, to code.some.0 code.some.1);
   whole = λ bytes a rest all e.
@@ -125,14 +165,19 @@ recoded {A} {text} {other_text} {fits} {other_fits} {read} to from same code = r
 }
 
 -- one of two codes, where the texts of the second aren't begun as the first's are
-module _ {A : Type 0} (text : A → List ℕ) (fits1 fits2 : A → Type 0) (read1 read2 : List ℕ → Result (A × List ℕ) Stop) (one : IsCode text fits1 read1) (two : IsCode text fits2 read2) (apart : (a : A) (rest : List ℕ) → fits2 a → read1 (text a ++ rest) ≡ Err Bad) where
+module _ {A : Type 0} (text : A → List ℕ) (fits1 fits2 : A → Type 0)
+    (read1 read2 : List ℕ → Result (A × List ℕ) Stop) (one : IsCode text fits1 read1)
+    (two : IsCode text fits2 read2)
+    (apart : (a : A) (rest : List ℕ) → fits2 a → read1 (text a ++ rest) ≡ Err Bad) where
   -- what came, and from which of the two
-  either_from : (r : Result (A × List ℕ) Stop) (other : Result (A × List ℕ) Stop) (z : Result (A × List ℕ) Stop) → or_else r other ≡ z → (r ≡ z) ⊎ ((r ≡ Err Bad) × (other ≡ z))
+  either_from : (r : Result (A × List ℕ) Stop) (other : Result (A × List ℕ) Stop)
+      (z : Result (A × List ℕ) Stop) → or_else r other ≡ z → (r ≡ z) ⊎ ((r ≡ Err Bad) × (other ≡ z))
   either_from (Ok x) other z e = inl e
   either_from (Err Short) other z e = inl e
   either_from (Err Bad) other z e = inr (refl, e)
 
-  either_again : (a : A) (rest : List ℕ) → fits1 a ⊎ fits2 a → or_else (read1 (text a ++ rest)) (read2 (text a ++ rest)) ≡ Ok (a, rest)
+  either_again : (a : A) (rest : List ℕ) → fits1 a ⊎ fits2 a
+      → or_else (read1 (text a ++ rest)) (read2 (text a ++ rest)) ≡ Ok (a, rest)
   either_again a rest (inl fit) = rw (one.again a rest fit)
   either_again a rest (inr fit) = rw (apart a rest fit) (two.again a rest fit)
 
@@ -157,5 +202,7 @@ module _ {A : Type 0} (text : A → List ℕ) (fits1 fits2 : A → Type 0) (read
         ];
   }
     where
-      refused : (bytes more : List ℕ) → AreBytes bytes → read1 bytes ≡ Err Bad → or_else (read1 bytes) (read2 bytes) ≡ Err Bad → or_else (read1 (bytes ++ more)) (read2 (bytes ++ more)) ≡ Err Bad
+      refused : (bytes more : List ℕ) → AreBytes bytes → read1 bytes ≡ Err Bad
+          → or_else (read1 bytes) (read2 bytes) ≡ Err Bad
+          → or_else (read1 (bytes ++ more)) (read2 (bytes ++ more)) ≡ Err Bad
       refused bytes more all first e = rw (one.stays bytes more all first) (two.stays bytes more all (rw first at e))

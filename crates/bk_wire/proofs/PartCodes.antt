@@ -64,7 +64,8 @@ key_len_code =
     (λ key. key ++ EndText) (λ n key. KeyHas n key) (λ n bytes. key_at n bytes)
     (number_code 1 LONGEST_KEY 10 (lit< tt) (lit≤ tt) (lit≤ tt) (lit< tt)) (λ n _. key_code n) (λ n key h. h.0.0)
 
-verb_key_code : (verb : List ℕ) → IsCode (λ key. verb ++ (key_len_text key ++ (key ++ EndText))) (λ key. Unit {0} × KeyFits key)
+verb_key_code : (verb : List ℕ)
+    → IsCode (λ key. verb ++ (key_len_text key ++ (key ++ EndText))) (λ key. Unit {0} × KeyFits key)
     (λ bytes. literal_at verb bytes >>= λ begun. key_len_at begun.1)
 verb_key_code verb =
     joined (λ (key : Bytes). tt) (λ _. verb) (λ _. Unit {0}) (literal_at verb)
@@ -74,7 +75,8 @@ verb_key_code verb =
 abbrev pub keyed_text : List ℕ → Bytes → List ℕ
 keyed_text verb key = line (numbered verb (length key)) ++ line key
 
-keyed_same : (verb len key : List ℕ) → verb ++ ((len ++ 10 ∷ []) ++ (key ++ 10 ∷ [])) ≡ ((verb ++ len) ++ 10 ∷ []) ++ (key ++ 10 ∷ [])
+keyed_same : (verb len key : List ℕ)
+    → verb ++ ((len ++ 10 ∷ []) ++ (key ++ 10 ∷ [])) ≡ ((verb ++ len) ++ 10 ∷ []) ++ (key ++ 10 ∷ [])
 keyed_same verb len key = simp append_assoc
 
 pub keyed_code : (verb : List ℕ) → IsCode (keyed_text verb) FitsKey (keyed_at verb)
@@ -133,9 +135,11 @@ ValueLenHas k pair = Within 0 LONGEST_VALUE (length pair.1) × BodyHas k (length
 
 value_len_code : (k : ℕ) → IsCode value_len_text (ValueLenHas k) (value_len_at k)
 value_len_code k =
-    joined (λ (pair : Pair). length pair.1) (λ n. decimal n ++ 10 ∷ []) (Within 0 LONGEST_VALUE) (number_at 0 LONGEST_VALUE 10)
+    joined (λ (pair : Pair). length pair.1) (λ n. decimal n ++ 10 ∷ []) (Within 0 LONGEST_VALUE)
+    (number_at 0 LONGEST_VALUE 10)
     body_text (λ v pair. BodyHas k v pair) (λ v bytes. body_at k v bytes)
-    (number_code 0 LONGEST_VALUE 10 (lit< tt) (lit≤ tt) (lit≤ tt) (lit< tt)) (λ v _. body_code k v) (λ v pair h. h.1.0.0)
+    (number_code 0 LONGEST_VALUE 10 (lit< tt) (lit≤ tt) (lit≤ tt) (lit< tt)) (λ v _. body_code k v)
+    (λ v pair h. h.1.0.0)
 
 abbrev lens_text : Pair → List ℕ
 lens_text pair = (decimal (length pair.0) ++ 32 ∷ []) ++ value_len_text pair
@@ -148,9 +152,11 @@ PairHas pair = Within 1 LONGEST_KEY (length pair.0) × ValueLenHas (length pair.
 
 lens_code : IsCode lens_text PairHas lens_at
 lens_code =
-    joined (λ (pair : Pair). length pair.0) (λ n. decimal n ++ 32 ∷ []) (Within 1 LONGEST_KEY) (number_at 1 LONGEST_KEY 32)
+    joined (λ (pair : Pair). length pair.0) (λ n. decimal n ++ 32 ∷ []) (Within 1 LONGEST_KEY)
+    (number_at 1 LONGEST_KEY 32)
     value_len_text (λ k pair. ValueLenHas k pair) (λ k bytes. value_len_at k bytes)
-    (number_code 1 LONGEST_KEY 32 (lit< tt) (lit≤ tt) (lit≤ tt) (lit< tt)) (λ k _. value_len_code k) (λ k pair h. h.1.0.0)
+    (number_code 1 LONGEST_KEY 32 (lit< tt) (lit≤ tt) (lit≤ tt) (lit< tt)) (λ k _. value_len_code k)
+    (λ k pair h. h.1.0.0)
 
 verb_pair_code : (verb : List ℕ) → IsCode (λ pair. verb ++ lens_text pair) (λ pair. Unit {0} × PairHas pair)
     (λ bytes. literal_at verb bytes >>= λ begun. lens_at begun.1)
@@ -162,11 +168,13 @@ verb_pair_code verb =
 abbrev pub paired_text : List ℕ → Pair → List ℕ
 paired_text verb pair = line (and_number (numbered verb (length pair.0)) (length pair.1)) ++ line (pair.0 ++ pair.1)
 
-paired_same : (verb k v key value : List ℕ) → verb ++ ((k ++ 32 ∷ []) ++ ((v ++ 10 ∷ []) ++ (key ++ (value ++ 10 ∷ []))))
+paired_same : (verb k v key value : List ℕ)
+    → verb ++ ((k ++ 32 ∷ []) ++ ((v ++ 10 ∷ []) ++ (key ++ (value ++ 10 ∷ []))))
     ≡ (((verb ++ k) ++ 32 ∷ v) ++ 10 ∷ []) ++ ((key ++ value) ++ 10 ∷ [])
 paired_same verb k v key value = simp append_assoc
 
-pub paired_code : (verb : List ℕ) → IsCode (paired_text verb) (λ (pair : Pair). FitsKey pair.0 × FitsValue pair.1) (paired_at verb)
+pub paired_code : (verb : List ℕ)
+    → IsCode (paired_text verb) (λ (pair : Pair). FitsKey pair.0 × FitsValue pair.1) (paired_at verb)
 unfolding paired_at
 paired_code verb =
     recoded
@@ -176,7 +184,10 @@ paired_code verb =
     ))
     (λ pair fit. (
       tt,
-      ((fit.0.bounds.some, fit.0.bounds.short), ((omega arith, fit.1.bounds), ((refl, fit.0.bytes), ((refl, fit.1.bytes), (tt, refl))))),
+      (
+        (fit.0.bounds.some, fit.0.bounds.short),
+        ((omega arith, fit.1.bounds), ((refl, fit.0.bytes), ((refl, fit.1.bytes), (tt, refl)))),
+      ),
     ))
     (λ pair _. paired_same verb (decimal (length pair.0)) (decimal (length pair.1)) pair.0 pair.1)
     (verb_pair_code verb)

@@ -23,7 +23,8 @@ kind Quit = 7
 
 -- what a request of each kind begins with
 words : List (List ℕ)
-words = codes "GET " ∷ codes "PUT " ∷ codes "DEL " ∷ codes "FOLD\n" ∷ codes "KEYS\n" ∷ codes "SYNC\n" ∷ codes "STAT\n" ∷ codes "QUIT\n" ∷ []
+words = codes "GET " ∷ codes "PUT " ∷ codes "DEL " ∷ codes "FOLD\n" ∷ codes "KEYS\n" ∷ codes "SYNC\n"
+    ∷ codes "STAT\n" ∷ codes "QUIT\n" ∷ []
 
 word : ℕ → List ℕ
 word n = get_or words n []
@@ -36,7 +37,8 @@ all_apart _ = refl
 
 apart : (n : ℕ) (r : Request) (rest : List ℕ) → n < kind r → literal_at (word n) (request_text r ++ rest) ≡ Err Bad
 apart n r rest earlier =
-    refused (word n) (request_text r) rest (below (kind r) (λ m. refuses (word m) (request_text r)) n (all_apart r) earlier)
+    refused (word n) (request_text r) rest
+    (below (kind r) (λ m. refuses (word m) (request_text r)) n (all_apart r) earlier)
 
 abbrev Kind : ℕ → Request → Type 0
 Kind = IsKind request_text Fits kind
@@ -46,7 +48,8 @@ unfolding kind
 from_get (Get key) is = (key, refl, is.0)
 from_get _ is = absurd (omega (arith, is.1))
 
-from_put : (r : Request) → Kind 1 r → (pair : List ℕ × List ℕ) × (r ≡ Put pair.0 pair.1) × (FitsKey pair.0 × FitsValue pair.1)
+from_put : (r : Request) → Kind 1 r → (pair : List ℕ × List ℕ) × (r ≡ Put pair.0 pair.1)
+    × (FitsKey pair.0 × FitsValue pair.1)
 unfolding kind
 from_put (Put key value) is = ((key, value), refl, is.0)
 from_put _ is = absurd (omega (arith, is.1))
@@ -83,7 +86,9 @@ from_quit _ is = absurd (omega (arith, is.1))
 
 get_code : IsCode request_text (Kind 0) get_at
 unfolding kind request_text
-get_code = made_code Get request_text (Kind 0) (keyed_code (codes "GET ")) (λ key fit. (fit, refl)) from_get (λ key. refl)
+get_code =
+    made_code Get request_text (Kind 0) (keyed_code (codes "GET ")) (λ key fit. (fit, refl)) from_get
+    (λ key. refl)
 
 put_code : IsCode request_text (Kind 1) put_at
 unfolding kind request_text
@@ -93,27 +98,39 @@ put_code =
 
 delete_code : IsCode request_text (Kind 2) delete_at
 unfolding kind request_text
-delete_code = made_code Delete request_text (Kind 2) (keyed_code (codes "DEL ")) (λ key fit. (fit, refl)) from_delete (λ key. refl)
+delete_code =
+    made_code Delete request_text (Kind 2) (keyed_code (codes "DEL ")) (λ key fit. (fit, refl))
+    from_delete (λ key. refl)
 
 fold_code : IsCode request_text (Kind 3) (word_at (codes "FOLD\n") Fold)
 unfolding kind request_text
-fold_code = made_code (λ _. Fold) request_text (Kind 3) (literal_code (codes "FOLD\n")) (λ _ _. (tt, refl)) from_fold (λ _. refl)
+fold_code =
+    made_code (λ _. Fold) request_text (Kind 3) (literal_code (codes "FOLD\n")) (λ _ _. (tt, refl))
+    from_fold (λ _. refl)
 
 keys_code : IsCode request_text (Kind 4) (word_at (codes "KEYS\n") Keys)
 unfolding kind request_text
-keys_code = made_code (λ _. Keys) request_text (Kind 4) (literal_code (codes "KEYS\n")) (λ _ _. (tt, refl)) from_keys (λ _. refl)
+keys_code =
+    made_code (λ _. Keys) request_text (Kind 4) (literal_code (codes "KEYS\n")) (λ _ _. (tt, refl))
+    from_keys (λ _. refl)
 
 sync_code : IsCode request_text (Kind 5) (word_at (codes "SYNC\n") Sync)
 unfolding kind request_text
-sync_code = made_code (λ _. Sync) request_text (Kind 5) (literal_code (codes "SYNC\n")) (λ _ _. (tt, refl)) from_sync (λ _. refl)
+sync_code =
+    made_code (λ _. Sync) request_text (Kind 5) (literal_code (codes "SYNC\n")) (λ _ _. (tt, refl))
+    from_sync (λ _. refl)
 
 stat_code : IsCode request_text (Kind 6) (word_at (codes "STAT\n") Stat)
 unfolding kind request_text
-stat_code = made_code (λ _. Stat) request_text (Kind 6) (literal_code (codes "STAT\n")) (λ _ _. (tt, refl)) from_stat (λ _. refl)
+stat_code =
+    made_code (λ _. Stat) request_text (Kind 6) (literal_code (codes "STAT\n")) (λ _ _. (tt, refl))
+    from_stat (λ _. refl)
 
 quit_code : IsCode request_text (Kind 7) (word_at (codes "QUIT\n") Quit)
 unfolding kind request_text
-quit_code = made_code (λ _. Quit) request_text (Kind 7) (literal_code (codes "QUIT\n")) (λ _ _. (tt, refl)) from_quit (λ _. refl)
+quit_code =
+    made_code (λ _. Quit) request_text (Kind 7) (literal_code (codes "QUIT\n")) (λ _ _. (tt, refl))
+    from_quit (λ _. refl)
 
 last : (r : Request) → kind r ≤ 7
 unfolding kind
@@ -121,7 +138,8 @@ last (Get key) = omega arith
 last _ = omega arith
 
 -- a word of a later kind
-word_refused : (text : List ℕ) (value : Request) (bytes : List ℕ) → literal_at text bytes ≡ Err Bad → word_at text value bytes ≡ Err Bad
+word_refused : (text : List ℕ) (value : Request) (bytes : List ℕ) → literal_at text bytes ≡ Err Bad
+    → word_at text value bytes ≡ Err Bad
 word_refused text value bytes refused = rw refused
 
 abbrev From : ℕ → Request → Type 0
@@ -156,5 +174,6 @@ unfolding request_at
 request_code =
     recoded (λ r from. from.0) (λ r fit. (fit, omega arith)) (λ r _. refl)
     (from_code request_text Fits kind 0 get_code
-    (from_code request_text Fits kind 1 put_code (from_code request_text Fits kind 2 delete_code command_code delete_apart) put_apart)
+    (from_code request_text Fits kind 1 put_code
+    (from_code request_text Fits kind 2 delete_code command_code delete_apart) put_apart)
     get_apart)

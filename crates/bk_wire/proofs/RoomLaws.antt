@@ -3,14 +3,23 @@ use Rattle.std.proofs.Common.{◌≡◌, ℕ, ◌+◌, ◌-◌, ◌≤◌, List,
 use Rattle.std.proofs.lemmas.List.{drop-take, take_all, take_at, length-drop, length-replicate}
 use Rattle.bk_wire.specs.Room.{HasRoom}
 
-pub put_behind : (xs : List ℕ) (room n : ℕ) → n ≡ length xs + room → HasRoom xs room (take n xs ++ replicate (n - length xs) 0)
+pub put_behind : (xs : List ℕ) (room n : ℕ) → n ≡ length xs + room
+    → HasRoom xs room (take n xs ++ replicate (n - length xs) 0)
 put_behind xs room n is =
     let all : take n xs ≡ xs = take_all n xs (omega (arith, is)) in (
-      ap (λ (l : List ℕ). take (length xs) (l ++ replicate (n - length xs) 0)) all ∙ take_at xs (replicate (n - length xs) 0) (length xs) refl,
-      omega (arith, is, length-append (take n xs) (replicate (n - length xs) 0), ap (λ (l : List ℕ). length l) all, length-replicate {A = ℕ} (n - length xs) 0),
+      ap (λ (l : List ℕ). take (length xs) (l ++ replicate (n - length xs) 0)) all
+          ∙ take_at xs (replicate (n - length xs) 0) (length xs) refl,
+      omega (
+        arith,
+        is,
+        length-append (take n xs) (replicate (n - length xs) 0),
+        ap (λ (l : List ℕ). length l) all,
+        length-replicate {A = ℕ} (n - length xs) 0,
+      ),
     )
 
-pub room_stays : (xs ys : List ℕ) (room count : ℕ) → count ≤ length xs → HasRoom xs room ys → HasRoom (drop count xs) room (drop count ys)
+pub room_stays : (xs ys : List ℕ) (room count : ℕ) → count ≤ length xs → HasRoom xs room ys
+    → HasRoom (drop count xs) room (drop count ys)
 room_stays xs ys room count within has =
     let left : count + (length xs - count) ≡ length xs = omega (arith, within) in (
       ap (λ (n : ℕ). take n (drop count ys)) (length-drop count xs) ∙ sym (drop-take count (length xs - count) ys)

@@ -15,7 +15,8 @@ returns-in-Ok-Need-clause-disk g c = λ is. absurd (c.read_on.ensures.not_disk i
 pub returns-in-Ok-Bad-clause-turns : goal.returns-in-Ok-Bad-clause-turns
 returns-in-Ok-Bad-clause-turns g c =
     let bad = rw c.in-Ok-Bad.field-0-is at c.in-Ok-Bad.ensures.ok in
-    bad_turn c.stop_at_bad.result _ _ _ _ _ _ _ _ _ _ _ _ c.args.desk.now.reader c.next.new.self c.stop_at_bad.new.replies.items (bad_never _ bad.0) c.stop_at_bad.ensures
+    bad_turn c.stop_at_bad.result _ _ _ _ _ _ _ _ _ _ _ _ c.args.desk.now.reader c.next.new.self
+    c.stop_at_bad.new.replies.items (bad_never _ bad.0) c.stop_at_bad.ensures
 
 pub returns-in-Err-clause-turns : goal.returns-in-Err-clause-turns
 returns-in-Err-clause-turns g c = λ start served so.

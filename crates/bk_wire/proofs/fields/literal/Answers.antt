@@ -13,5 +13,6 @@ nothing_left (c ∷ text) (b ∷ bytes) some none = absurd (omega arith)
 pub returns-in_default : goal.returns-in_default
 returns-in_default c =
     let text = c.args.text.now in
-    let some : 0 < length (drop c.loop-expected.expected-index text) = omega (arith, length-drop c.loop-expected.expected-index text) in
+    let some : 0 < length (drop c.loop-expected.expected-index text) =
+    omega (arith, length-drop c.loop-expected.expected-index text) in
     sym c.loop-expected.invariant ∙ nothing_left _ _ some (omega (arith, c.in_default.ensures.cases))

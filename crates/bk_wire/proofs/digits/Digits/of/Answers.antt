@@ -6,7 +6,8 @@ use Rattle.std.proofs.lemmas.Fmt.{decimal_digit, decimal_step_wide}
 use Rattle.bk_wire.proofs.digits.Digits.of.Goals as goal
 
 -- the place before i gets a byte
-one_before : (bytes : List ℕ) (i b : ℕ) → 0 < i → i ≤ length bytes → drop (i - 1) (set bytes (i - 1) b) ≡ b ∷ drop i bytes
+one_before : (bytes : List ℕ) (i b : ℕ) → 0 < i → i ≤ length bytes
+    → drop (i - 1) (set bytes (i - 1) b) ≡ b ∷ drop i bytes
 one_before bytes i b some within =
     let next : i - 1 + 1 ≡ i = omega arith in
     drop-set bytes (i - 1) b (omega arith) ∙ ap (λ k. b ∷ drop k bytes) next
@@ -47,5 +48,10 @@ loop-i-preserved c =
     let rest = c.loop-i.rest in
     let small : rest < 10 ^ 64 = omega (arith, c.loop-i.auto.rest-fits) in
     let next = next_digit _ rest i _ c.loop-i-test.true (omega arith) c.if-rest-lt10.false small so_far.3 in
-    rw c.tenth-rest.ensures
-    (length-set c.loop-i.bytes (i - 1) (48 + rest % 10) ∙ so_far.0, fewer rest i c.loop-i-test.true so_far.1, λ _. omega arith, next)
+    rw c.tenth-rest.ensures (
+      length-set c.loop-i.bytes (i - 1) (48 + rest % 10)
+          ∙ so_far.0,
+      fewer rest i c.loop-i-test.true so_far.1,
+      λ _. omega arith,
+      next,
+    )
