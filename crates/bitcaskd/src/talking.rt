@@ -208,10 +208,13 @@ fn turn<D: Disk, S: Source, K: Sink, C: Clock>(
     ensures built { IfSome result IsBuilt }
 {
     match desk.reader.next() {
-        Ok(Next::Ask(request)) if is_offered(&request) => {
-            ask(alloc, store, clock, &mut desk.replies, sink, request)
+        Ok(Next::Ask(request)) => {
+            if is_offered(&request) {
+                ask(alloc, store, clock, &mut desk.replies, sink, request)
+            } else {
+                stop_at_bad(&mut desk.replies, sink)
+            }
         }
-        Ok(Next::Ask(_)) => stop_at_bad(&mut desk.replies, sink),
         Ok(Next::Need) => read_on(desk, source, sink),
         Ok(Next::Bad(_)) => stop_at_bad(&mut desk.replies, sink),
         Err(_) => {

@@ -47,8 +47,8 @@ returns-in-Ok-clause-ok g c =
     (put-served _ _ c.in-Put.key c.in-Put.value c.in-Ok.seq c.now-now.result _ _
     c.now-now.ensures.moment c.now-now.ensures.later c.in-Ok.ensures.ok c.in-Ok.ensures.later c.in-Ok.ensures.views)
 
-pub returns-clause-err : goal.returns-clause-err
-returns-clause-err g c =
+pub returns-in-Put-clause-err : goal.returns-in-Put-clause-err
+returns-in-Put-clause-err g c =
     refused _ _ c.args.request c.now-now.result _ _ c.now-now.ensures.moment c.now-now.ensures.later
     (λ tells log h. (
       put_of (next_of c.args.store.now.index) c.now-now.result c.in-Put.key c.in-Put.value ∷ [],
