@@ -11,9 +11,9 @@ from support import (
     DATA_FILE, LARGEST_VALUE, LOCK_FILE, SECONDS, Client, StoreTest, found, get, numbered, put, record, run,
 )
 
-# What begins no request, as soon as its last byte is there.
+# What begins no request that the program serves, as soon as its last byte is there.
 NO_REQUEST = [
-    b"D", b"DEL 1\na\n", b"get 1\na\n", b"\n", b" GET 1\na\n", b"GE\n", b"GETS", b"GET\n", b"GET  1", b"GET \n",
+    b"M", b"DU", b"DEL 1\na\n", b"get 1\na\n", b"\n", b" GET 1\na\n", b"GE\n", b"GETS", b"GET\n", b"GET  1", b"GET \n",
     b"GET 0", b"GET 01", b"GET -1", b"GET +1", b"GET a", b"GET 1 ", b"GET 65536", b"GET 655350", b"GET 1\r\n",
     b"GET 1\nab", b"PUX", b"PUT\n", b"PUT 1\n", b"PUT 0", b"PUT 65536", b"PUT 1 \n", b"PUT 1  1", b"PUT 1 01",
     b"PUT 1 00", b"PUT 1 1 ", b"PUT 1 16777217", b"PUT 1 167772160", b"PUT 1 1\nabc", b"PUT 1 0\nab", b"FOLD\n",
