@@ -31,5 +31,5 @@ Exit status, with its word on standard error:
    5  sink       standard output could not be written
   10  long       the input has more than 1099511627776 bytes
   11  notbuilt   the words are none of the above, DIR has a file of a store, or the input has
-                 something that is no request, or ends within one
+                 something that is no PUT and no GET, or ends within one
 ";
