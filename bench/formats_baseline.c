@@ -1,43 +1,11 @@
 // The loops of crates/bench_formats in plain C, over the same bytes: hint rows written and read, requests read, replies
 // written. Standard output has the counts and checksums, standard error the nanoseconds of one.
-#include <stdint.h>
 #include <stdio.h>
 #include <stdlib.h>
-#include <string.h>
 #include <time.h>
+#include "slices.h"
 
-static uint32_t table[16][256];
-
-static void fill_table(void) {
-    for (uint32_t byte = 0; byte < 256; byte++) {
-        uint32_t c = byte;
-        for (int bit = 0; bit < 8; bit++)
-            c = (c >> 1) ^ ((c & 1) ? 0xEDB88320u : 0);
-        table[0][byte] = c;
-    }
-    for (uint32_t byte = 0; byte < 256; byte++)
-        for (int slice = 1; slice < 16; slice++) {
-            uint32_t c = table[slice - 1][byte];
-            table[slice][byte] = (c >> 8) ^ table[0][c & 0xff];
-        }
-}
-
-static uint32_t add_crc(uint32_t c, const unsigned char *p, size_t n) {
-    for (; n >= 16; p += 16, n -= 16) {
-        uint32_t w[4];
-        memcpy(w, p, 16);
-        w[0] ^= c;
-        c = table[15][w[0] & 0xff] ^ table[14][(w[0] >> 8) & 0xff] ^ table[13][(w[0] >> 16) & 0xff] ^ table[12][w[0] >> 24]
-          ^ table[11][w[1] & 0xff] ^ table[10][(w[1] >> 8) & 0xff] ^ table[9][(w[1] >> 16) & 0xff] ^ table[8][w[1] >> 24]
-          ^ table[7][w[2] & 0xff] ^ table[6][(w[2] >> 8) & 0xff] ^ table[5][(w[2] >> 16) & 0xff] ^ table[4][w[2] >> 24]
-          ^ table[3][w[3] & 0xff] ^ table[2][(w[3] >> 8) & 0xff] ^ table[1][(w[3] >> 16) & 0xff] ^ table[0][w[3] >> 24];
-    }
-    while (n--)
-        c = (c >> 8) ^ table[0][(c ^ *p++) & 0xff];
-    return c;
-}
-
-static uint32_t crc(const unsigned char *p, size_t n) { return ~add_crc(~0u, p, n); }
+static uint32_t crc(const unsigned char *p, size_t n) { return ~by_slices(~0u, p, n); }
 
 static uint64_t now(void) {
     struct timespec t;
@@ -85,8 +53,8 @@ static void write_hint(Bytes *out, uint32_t items) {
         header(head, 5, 16, 100, (uint64_t)i * 138, (uint64_t)i + 1, 0xaff443c2u);
         append(out, head, 30);
         append(out, key, 16);
-        check = add_crc(check, head, 30);
-        check = add_crc(check, (const unsigned char *)key, 16);
+        check = by_slices(check, head, 30);
+        check = by_slices(check, (const unsigned char *)key, 16);
     }
     header(head, 0, 0, 0, (uint64_t)items * 138, items, ~check);
     append(out, head, 30);
