@@ -8,7 +8,7 @@ import unittest
 from support import LARGEST_VALUE, StoreTest, found, get, numbered, put
 
 MIB = 1_048_576
-READER = 17 * MIB  # that the reader of requests keeps after a large one, and what else grows
+KEPT = 2 * MIB  # of what large requests and replies took, at most
 
 
 class Memory(StoreTest):
@@ -28,7 +28,7 @@ class Memory(StoreTest):
                 client.send(request)
                 self.assertTrue(client.receive(len(reply)) == reply, "another reply")
                 sizes.append(int(re.search(r"VmRSS:\s+(\d+)", resident.read_text())[1]) * 1024)
-        self.assertLess(sizes[-1] - sizes[0], READER)
+        self.assertLess(sizes[-1] - sizes[0], KEPT)
         self.assert_ended(client.finish(), 0)
 
 
