@@ -1,5 +1,6 @@
 -- What the last state of the table says to a pass that has all the weight.
 use Rattle.std.proofs.Common.{◌≡◌, ◌≢◌, ℕ, Bool, true, false, List, Option, Some, None, refl, ap, sym, ◌∙◌, subst, arith}
+use Rattle.std.proofs.lemmas.Bool.{false_from_ne_true}
 use mathlib.Core.Option.{some, none, some-injective, some-ne-none}
 use mathlib.Core.Option as maybe
 use mathlib.Core.Logic.{dite}
@@ -24,16 +25,12 @@ gone_idle (Waiting t) e = refl
 gone_idle (Holding t) e = absurd cc
 gone_idle Gone e = refl
 
-dead : (b : Bool) → (b ≡ true → ⊥) → b ≡ false
-dead true n = absurd (n refl)
-dead false n = refl
-
 -- beside a seat with all the weight each seat was joined away
 all_gone : (l : List Seated) (id : ℕ) (v : Seated) → WeightsAreWhole l → get_elem? l id ≡ some v
     → v.view.weight ≡ 4294967296 → (k : ℕ) (seat : Seated) → k ≢ id → get_elem? l k ≡ some seat
     → is_live seat.stage ≡ false
 all_gone l id v r at all k seat ne at' =
-    dead (is_live seat.stage)
+    false_from_ne_true (is_live seat.stage)
     (λ live. let two = total-two (λ (x : Seated). x.view.weight) l k id seat v ne at' at in let h =
     r.heavy k seat at' live in let w = r.whole in omega arith)
 

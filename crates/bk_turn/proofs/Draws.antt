@@ -1,5 +1,6 @@
 -- The exchange that draws a ticket keeps the rule.
 use Rattle.std.proofs.Common.{◌≡◌, eqb, ◌≢◌, ℕ, ◌+◌, ◌<◌, ◌≤◌, Bool, true, false, List, [], ◌∷◌, set, slice_index, get_or, Option, refl, ap, sym, ◌∙◌, subst, arith}
+use Rattle.std.proofs.lemmas.Bool.{false_from_ne_true}
 use mathlib.Core.Option.{some, none}
 use mathlib.Core.Logic.{dite}
 use native.Mathlib.Decide.{ℕ_discrete}
@@ -41,10 +42,6 @@ tickets_drawn first serving t l id v r at idle more = let w : Seated =
       full = each_set (λ seat. seat.view.full ≡ true → t + 1 ≡ 18446744073709551615) l id w
           (λ k seat ne at' h. absurd (more (r.full k seat at' h))) (λ h. absurd (more (r.full id v at h)));
     }
-
-not_full : (b : Bool) → (b ≡ true → ⊥) → b ≡ false
-not_full true n = absurd (n refl)
-not_full false n = refl
 
 module _ {S : Type 0} (stands : S → ℕ → Opening → List Step → Type 0) (first : ℕ) where
   drawn_hit : (s : State (Option S) Seated) → Orderly stands first s → (id : ℕ) (me : Sat S) (old : ℕ)
@@ -151,7 +148,7 @@ module _ {S : Type 0} (stands : S → ℕ → Opening → List Step → Type 0) 
           hit =
               λ _. (
                 refl,
-                not_full me.0.view.full
+                false_from_ne_true me.0.view.full
                     (λ h. more (sym hit ∙ (is ∙ r.tickets_in_order.full id me.0 at h))),
               );
           full =
