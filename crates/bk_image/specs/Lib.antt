@@ -1,0 +1,10 @@
+pub mod Readings
+pub mod CountedFiles
+pub mod RecoveredLog
+pub mod SoundDirectory
+pub mod Chance
+pub mod Prefix
+pub mod Core
+pub mod Known
+pub mod Holds
+pub mod Growth
