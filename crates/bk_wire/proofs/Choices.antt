@@ -1,11 +1,11 @@
 -- One of several codes, by kinds: each kind has a code, and its reader refuses the texts of the later kinds.
 use Rattle.std.proofs.Common.{◌≡◌, ℕ, zero, suc, ◌+◌, ◌<◌, ◌≤◌, Bool, true, false, cond, ◌==◌, ◌&&◌, ◌⊎◌, List, [], ◌∷◌, ◌++◌, Result, Ok, Err}
-use Rattle.std.proofs.Common.{refl, sym, ap, subst, ◌∙◌, inl, inr, arith, eqb-true, eq-eqb}
+use Rattle.std.proofs.Common.{refl, ap, ◌∙◌, inl, inr, arith}
 use Rattle.std.proofs.lemmas.Bool.{and_parts, cases_lt}
 use Rattle.bk_base.specs.Bounds.{AreBytes}
 use Rattle.bk_wire.specs.declared.stops.Stop.{Stop}
 use Rattle.bk_wire.specs.declared.stops.Stop.TheVariants.{Short, Bad}
-use Rattle.bk_wire.specs.Reading.{◌>>=◌, literal_at, made, or_else}
+use Rattle.bk_wire.specs.Reading.{literal_at, made, or_else}
 use Rattle.bk_wire.proofs.Codes.{IsCode, chosen, same_found, bind_ok, bind_err, recoded, either_code}
 
 -- what is read is made into another value, by a code for the values that are made so
@@ -13,26 +13,26 @@ module _ {A B : Type 0} (make : B → A) {text1 : B → List ℕ} {fits1 : B →
     {read1 : List ℕ → Result (B × List ℕ) Stop} (text : A → List ℕ) (fits : A → Type 0)
     (code : IsCode text1 fits1 read1) (to : (b : B) → fits1 b → fits (make b))
     (from : (a : A) → fits a → (b : B) × (a ≡ make b) × fits1 b)
-    (same : (b : B) → text1 b ≡ text (make b)) where
+    (same : (b : B) → fits1 b → text1 b ≡ text (make b)) where
   made_whole : (bytes : List ℕ) (a : A) (rest : List ℕ) → AreBytes bytes → made make (read1 bytes) ≡ Ok (a, rest)
       → fits a × (bytes ≡ text a ++ rest)
   made_whole bytes a rest all e =
       let (x, first, second) = bind_ok (read1 bytes) (λ x. Ok (make x.0, x.1)) (a, rest) e in
       let is = same_found (make x.0) a x.1 rest second in
       let (fit, split) = code.whole bytes x.0 x.1 all first in
-      rw (← is.0) (to x.0 fit, split ∙ ap (λ t. t ++ x.1) (same x.0) ∙ ap (λ r. text (make x.0) ++ r) is.1)
+      rw (← is.0) (to x.0 fit, split ∙ ap (λ t. t ++ x.1) (same x.0 fit) ∙ ap (λ r. text (make x.0) ++ r) is.1)
 
   made_again : (a : A) (rest : List ℕ) → fits a → made make (read1 (text a ++ rest)) ≡ Ok (a, rest)
   made_again a rest fit =
       let (b, is, fit1) = from a fit in
-      rw (is, ← same b, code.again b rest fit1) refl
+      rw (is, ← same b fit1, code.again b rest fit1) refl
 
   made_short : (bytes : List ℕ) → AreBytes bytes → made make (read1 bytes) ≡ Err Short
       → (a : A) × (more : List ℕ) × fits a × (bytes ++ more ≡ text a)
   made_short bytes all e =
       elim (bind_err (read1 bytes) (λ x. Ok (make x.0, x.1)) Short e) [
         | inl first ↦ (let (b, more, fit, split) =
-            code.short bytes all first in (make b, more, to b fit, split ∙ same b))
+            code.short bytes all first in (make b, more, to b fit, split ∙ same b fit))
         | inr second ↦ (let wrong = second.2 in cc)
       ]
 

@@ -164,6 +164,18 @@ recoded {A} {text} {other_text} {fits} {other_fits} {read} to from same code = r
   stays = code.stays;
 }
 
+-- the same code by another reader that answers the same
+pub reread : {A : Type 0} {text : A → List ℕ} {fits : A → Type 0}
+    {read other : List ℕ → Result (A × List ℕ) Stop} → ((bytes : List ℕ) → other bytes ≡ read bytes)
+    → IsCode text fits read → IsCode text fits other
+reread {A} {text} {fits} {read} {other} same code = record {
+  some = code.some;
+  whole = λ bytes a rest all e. code.whole bytes a rest all (sym (same bytes) ∙ e);
+  again = λ a rest fit. same (text a ++ rest) ∙ code.again a rest fit;
+  short = λ bytes all e. code.short bytes all (sym (same bytes) ∙ e);
+  stays = λ bytes more all e. same (bytes ++ more) ∙ code.stays bytes more all (sym (same bytes) ∙ e);
+}
+
 -- one of two codes, where the texts of the second aren't begun as the first's are
 module _ {A : Type 0} (text : A → List ℕ) (fits1 fits2 : A → Type 0)
     (read1 read2 : List ℕ → Result (A × List ℕ) Stop) (one : IsCode text fits1 read1)

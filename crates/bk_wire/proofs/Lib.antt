@@ -1,7 +1,12 @@
 pub mod Codes
 pub mod Choices
+pub mod CodeLaws
 pub mod FieldCodes
 pub mod PartCodes
 pub mod RequestCodes
+pub mod NumberCodes
+pub mod WordCodes
+pub mod ReplyCodes
 pub mod RequestLaws
+pub mod ReplyLaws
 pub mod RoomLaws

@@ -1,11 +1,11 @@
--- A verb with a key behind it, or with a key and a value, is a code.
-use Rattle.std.proofs.Common.{◌≡◌, ℕ, ◌≤◌, List, [], ◌∷◌, ◌++◌, Result, length, decimal, Ok, Err, refl, ap, arith, lit≤, lit<, append_assoc}
+-- A piece behind its length, a verb with a key behind it, and one with a key and a value are codes.
+use Rattle.std.proofs.Common.{◌≡◌, ℕ, ◌^◌, ◌<◌, ◌≤◌, List, [], ◌∷◌, ◌++◌, Result, length, decimal, Ok, Err, refl, ap, arith, lit≤, lit<, append_assoc}
 use Rattle.bk_base.specs.declared.limits.TheConstants.{LONGEST_KEY, LONGEST_VALUE}
 use Rattle.bk_base.specs.Bounds.{AreBytes}
 use Rattle.bk_laws.specs.Wire.{FitsKey, FitsValue, and_number, line, numbered}
 use Rattle.bk_wire.specs.declared.stops.Stop.{Stop}
 use Rattle.bk_wire.specs.declared.stops.Stop.TheVariants.{Bad}
-use Rattle.bk_wire.specs.Reading.{◌>>=◌, literal_at, number_at, piece_at, keyed_at, paired_at}
+use Rattle.bk_wire.specs.Reading.{◌>>=◌, literal_at, number_at, piece_at, sized_at, keyed_at, paired_at}
 use Rattle.bk_wire.proofs.Codes.{IsCode, joined, done_code, recoded}
 use Rattle.bk_wire.proofs.FieldCodes.{literal_code, number_code, piece_code}
 
@@ -35,42 +35,54 @@ end_code {A} a =
     (λ _. []) (λ _ b. b ≡ a) (λ _ bytes. Ok (a, bytes))
     (literal_code (10 ∷ [])) (λ _ _. done_code a) (λ _ _ _. refl)
 
+-- ---- a piece behind its length
+
+abbrev tail_at : ℕ → List ℕ → Result (Bytes × List ℕ) Stop
+tail_at n bytes = piece_at n bytes >>= λ piece. end_at piece.0 piece.1
+
+abbrev TailHas : ℕ → Bytes → Type 0
+TailHas n piece = Part n piece × Ends piece piece
+
+tail_code : (n : ℕ) → IsCode (λ piece. piece ++ EndText) (TailHas n) (tail_at n)
+tail_code n =
+    joined (λ (piece : Bytes). piece) (λ p. p) (Part n) (piece_at n)
+    (λ _. EndText) (λ p piece. Ends p piece) (λ p bytes. end_at p bytes)
+    (piece_code n) (λ p _. end_code p) (λ p piece h. h.1)
+
+abbrev pub sized_text : Bytes → List ℕ
+sized_text piece = (decimal (length piece) ++ 10 ∷ []) ++ (piece ++ 10 ∷ [])
+
+-- a piece of bytes, with its length between these
+abbrev pub Sized : ℕ → ℕ → Bytes → Type 0
+Sized least most piece = Within least most (length piece) × AreBytes piece
+
+pub sized_code : (least most : ℕ) → most < 10 ^ 64 → least ≤ 1 → 9 ≤ most
+    → IsCode sized_text (Sized least most) (sized_at least most)
+unfolding sized_at
+sized_code least most small low high =
+    recoded (λ piece h. (h.0, h.1.0.1)) (λ piece fit. (fit.0, ((refl, fit.1), (tt, refl)))) (λ piece _. refl)
+    (joined (λ (piece : Bytes). length piece) (λ n. decimal n ++ 10 ∷ []) (Within least most)
+    (number_at least most 10)
+    (λ piece. piece ++ EndText) (λ n piece. TailHas n piece) (λ n bytes. tail_at n bytes)
+    (number_code least most 10 small low high (lit< tt)) (λ n _. tail_code n) (λ n piece h. h.0.0))
+
 -- ---- a key
 
-abbrev key_at : ℕ → List ℕ → Result (Bytes × List ℕ) Stop
-key_at n bytes = piece_at n bytes >>= λ key. end_at key.0 key.1
+pub key_code : IsCode sized_text FitsKey (sized_at 1 LONGEST_KEY)
+key_code =
+    recoded
+    (λ key h. record { bounds = record { some = h.0.0; short = h.0.1 }; bytes = h.1 })
+    (λ key fit. ((fit.bounds.some, fit.bounds.short), fit.bytes))
+    (λ key _. refl)
+    (sized_code 1 LONGEST_KEY (lit< tt) (lit≤ tt) (lit≤ tt))
 
-abbrev KeyHas : ℕ → Bytes → Type 0
-KeyHas n key = Part n key × Ends key key
-
-key_code : (n : ℕ) → IsCode (λ key. key ++ EndText) (KeyHas n) (key_at n)
-key_code n =
-    joined (λ (key : Bytes). key) (λ p. p) (Part n) (piece_at n)
-    (λ _. EndText) (λ p key. Ends p key) (λ p bytes. end_at p bytes)
-    (piece_code n) (λ p _. end_code p) (λ p key h. h.1)
-
-abbrev key_len_text : Bytes → List ℕ
-key_len_text key = decimal (length key) ++ 10 ∷ []
-
-abbrev KeyFits : Bytes → Type 0
-KeyFits key = Within 1 LONGEST_KEY (length key) × KeyHas (length key) key
-
-abbrev key_len_at : List ℕ → Result (Bytes × List ℕ) Stop
-key_len_at bytes = number_at 1 LONGEST_KEY 10 bytes >>= λ len. key_at len.0 len.1
-
-key_len_code : IsCode (λ key. key_len_text key ++ (key ++ EndText)) KeyFits key_len_at
-key_len_code =
-    joined (λ (key : Bytes). length key) (λ n. decimal n ++ 10 ∷ []) (Within 1 LONGEST_KEY) (number_at 1 LONGEST_KEY 10)
-    (λ key. key ++ EndText) (λ n key. KeyHas n key) (λ n bytes. key_at n bytes)
-    (number_code 1 LONGEST_KEY 10 (lit< tt) (lit≤ tt) (lit≤ tt) (lit< tt)) (λ n _. key_code n) (λ n key h. h.0.0)
-
-verb_key_code : (verb : List ℕ)
-    → IsCode (λ key. verb ++ (key_len_text key ++ (key ++ EndText))) (λ key. Unit {0} × KeyFits key)
-    (λ bytes. literal_at verb bytes >>= λ begun. key_len_at begun.1)
-verb_key_code verb =
-    joined (λ (key : Bytes). tt) (λ _. verb) (λ _. Unit {0}) (literal_at verb)
-    (λ key. key_len_text key ++ (key ++ EndText)) (λ _ key. KeyFits key) (λ _ bytes. key_len_at bytes)
-    (literal_code verb) (λ _ _. key_len_code) (λ _ _ _. refl)
+pub value_code : IsCode sized_text FitsValue (sized_at 0 LONGEST_VALUE)
+value_code =
+    recoded
+    (λ value h. record { bounds = h.0.1; bytes = h.1 })
+    (λ value fit. ((omega arith, fit.bounds), fit.bytes))
+    (λ value _. refl)
+    (sized_code 0 LONGEST_VALUE (lit< tt) (lit≤ tt) (lit≤ tt))
 
 abbrev pub keyed_text : List ℕ → Bytes → List ℕ
 keyed_text verb key = line (numbered verb (length key)) ++ line key
@@ -82,11 +94,10 @@ keyed_same verb len key = simp append_assoc
 pub keyed_code : (verb : List ℕ) → IsCode (keyed_text verb) FitsKey (keyed_at verb)
 unfolding keyed_at
 keyed_code verb =
-    recoded
-    (λ key h. record { bounds = record { some = h.1.0.0; short = h.1.0.1 }; bytes = h.1.1.0.1 })
-    (λ key fit. (tt, ((fit.bounds.some, fit.bounds.short), ((refl, fit.bytes), (tt, refl)))))
-    (λ key _. keyed_same verb (decimal (length key)) key)
-    (verb_key_code verb)
+    recoded (λ key h. h.1) (λ key fit. (tt, fit)) (λ key _. keyed_same verb (decimal (length key)) key)
+    (joined (λ (key : Bytes). tt) (λ _. verb) (λ _. Unit {0}) (literal_at verb)
+    sized_text (λ _ key. FitsKey key) (λ _ bytes. sized_at 1 LONGEST_KEY bytes)
+    (literal_code verb) (λ _ _. key_code) (λ _ _ _. refl))
 
 pub keyed_refused : (verb bytes : List ℕ) → literal_at verb bytes ≡ Err Bad → keyed_at verb bytes ≡ Err Bad
 unfolding keyed_at
@@ -97,14 +108,15 @@ keyed_refused verb bytes refused = rw refused
 abbrev Pair : Type 0
 Pair = List ℕ × List ℕ
 
-abbrev value_at : List ℕ → ℕ → List ℕ → Result (Pair × List ℕ) Stop
-value_at key n bytes = piece_at n bytes >>= λ value. end_at (key, value.0) value.1
+abbrev second_at : List ℕ → ℕ → List ℕ → Result (Pair × List ℕ) Stop
+second_at key n bytes = piece_at n bytes >>= λ value. end_at (key, value.0) value.1
 
-abbrev ValueHas : List ℕ → ℕ → Pair → Type 0
-ValueHas key n pair = Part n pair.1 × Ends (key, pair.1) pair
+abbrev SecondHas : List ℕ → ℕ → Pair → Type 0
+SecondHas key n pair = Part n pair.1 × Ends (key, pair.1) pair
 
-value_code : (key : List ℕ) (n : ℕ) → IsCode (λ (pair : Pair). pair.1 ++ EndText) (ValueHas key n) (value_at key n)
-value_code key n =
+second_code : (key : List ℕ) (n : ℕ)
+    → IsCode (λ (pair : Pair). pair.1 ++ EndText) (SecondHas key n) (second_at key n)
+second_code key n =
     joined (λ (pair : Pair). pair.1) (λ p. p) (Part n) (piece_at n)
     (λ _. EndText) (λ p pair. Ends (key, p) pair) (λ p bytes. end_at (key, p) bytes)
     (piece_code n) (λ p _. end_code (key, p)) (λ p pair h. ap (λ (x : Pair). x.1) h.1)
@@ -113,16 +125,16 @@ abbrev body_text : Pair → List ℕ
 body_text pair = pair.0 ++ (pair.1 ++ EndText)
 
 abbrev body_at : ℕ → ℕ → List ℕ → Result (Pair × List ℕ) Stop
-body_at k v bytes = piece_at k bytes >>= λ key. value_at key.0 v key.1
+body_at k v bytes = piece_at k bytes >>= λ key. second_at key.0 v key.1
 
 abbrev BodyHas : ℕ → ℕ → Pair → Type 0
-BodyHas k v pair = Part k pair.0 × ValueHas pair.0 v pair
+BodyHas k v pair = Part k pair.0 × SecondHas pair.0 v pair
 
 body_code : (k v : ℕ) → IsCode body_text (BodyHas k v) (body_at k v)
 body_code k v =
     joined (λ (pair : Pair). pair.0) (λ p. p) (Part k) (piece_at k)
-    (λ pair. pair.1 ++ EndText) (λ p pair. ValueHas p v pair) (λ p bytes. value_at p v bytes)
-    (piece_code k) (λ p _. value_code p v) (λ p pair h. ap (λ (x : Pair). x.0) h.1.1)
+    (λ pair. pair.1 ++ EndText) (λ p pair. SecondHas p v pair) (λ p bytes. second_at p v bytes)
+    (piece_code k) (λ p _. second_code p v) (λ p pair h. ap (λ (x : Pair). x.0) h.1.1)
 
 abbrev value_len_text : Pair → List ℕ
 value_len_text pair = (decimal (length pair.1) ++ 10 ∷ []) ++ body_text pair

@@ -1,15 +1,14 @@
 -- A request is a code: its header line, then its key and its value.
-use Rattle.std.proofs.Common.{◌≡◌, ℕ, ◌<◌, ◌≤◌, Bool, true, List, [], ◌∷◌, ◌++◌, Result, codes, get_or, Ok, Err, refl, arith, ap, ◌∙◌}
+use Rattle.std.proofs.Common.{◌≡◌, ℕ, ◌<◌, ◌≤◌, true, List, [], ◌∷◌, ◌++◌, codes, get_or, Err, refl, arith}
 use Rattle.bk_base.specs.declared.requests.Request.{Request}
 use Rattle.bk_base.specs.declared.requests.Request.TheVariants.{Get, Put, Delete, Fold, Keys, Sync, Stat, Quit}
 use Rattle.bk_laws.specs.Wire.{FitsKey, FitsValue, Fits, request_text}
-use Rattle.bk_wire.specs.declared.stops.Stop.{Stop}
 use Rattle.bk_wire.specs.declared.stops.Stop.TheVariants.{Bad}
-use Rattle.bk_wire.specs.Reading.{literal_at, keyed_at, paired_at, word_at, get_at, put_at, delete_at, command_at, request_at}
+use Rattle.bk_wire.specs.Reading.{literal_at, word_at, get_at, put_at, delete_at, command_at, request_at}
 use Rattle.bk_wire.proofs.Codes.{IsCode, recoded}
 use Rattle.bk_wire.proofs.Choices.{IsKind, IsFrom, made_code, from_code, last_code, refuses, refused, all_below, below}
 use Rattle.bk_wire.proofs.FieldCodes.{literal_code}
-use Rattle.bk_wire.proofs.PartCodes.{keyed_code, keyed_refused, keyed_text, paired_code, paired_refused, paired_text}
+use Rattle.bk_wire.proofs.PartCodes.{keyed_code, keyed_refused, paired_code, paired_refused}
 
 kind : Request → ℕ
 kind (Get key) = 0
@@ -88,49 +87,49 @@ get_code : IsCode request_text (Kind 0) get_at
 unfolding kind request_text
 get_code =
     made_code Get request_text (Kind 0) (keyed_code (codes "GET ")) (λ key fit. (fit, refl)) from_get
-    (λ key. refl)
+    (λ key _. refl)
 
 put_code : IsCode request_text (Kind 1) put_at
 unfolding kind request_text
 put_code =
     made_code (λ (pair : List ℕ × List ℕ). Put pair.0 pair.1) request_text (Kind 1) (paired_code (codes "PUT "))
-    (λ pair fit. (fit, refl)) from_put (λ pair. refl)
+    (λ pair fit. (fit, refl)) from_put (λ pair _. refl)
 
 delete_code : IsCode request_text (Kind 2) delete_at
 unfolding kind request_text
 delete_code =
     made_code Delete request_text (Kind 2) (keyed_code (codes "DEL ")) (λ key fit. (fit, refl))
-    from_delete (λ key. refl)
+    from_delete (λ key _. refl)
 
 fold_code : IsCode request_text (Kind 3) (word_at (codes "FOLD\n") Fold)
 unfolding kind request_text
 fold_code =
     made_code (λ _. Fold) request_text (Kind 3) (literal_code (codes "FOLD\n")) (λ _ _. (tt, refl))
-    from_fold (λ _. refl)
+    from_fold (λ _ _. refl)
 
 keys_code : IsCode request_text (Kind 4) (word_at (codes "KEYS\n") Keys)
 unfolding kind request_text
 keys_code =
     made_code (λ _. Keys) request_text (Kind 4) (literal_code (codes "KEYS\n")) (λ _ _. (tt, refl))
-    from_keys (λ _. refl)
+    from_keys (λ _ _. refl)
 
 sync_code : IsCode request_text (Kind 5) (word_at (codes "SYNC\n") Sync)
 unfolding kind request_text
 sync_code =
     made_code (λ _. Sync) request_text (Kind 5) (literal_code (codes "SYNC\n")) (λ _ _. (tt, refl))
-    from_sync (λ _. refl)
+    from_sync (λ _ _. refl)
 
 stat_code : IsCode request_text (Kind 6) (word_at (codes "STAT\n") Stat)
 unfolding kind request_text
 stat_code =
     made_code (λ _. Stat) request_text (Kind 6) (literal_code (codes "STAT\n")) (λ _ _. (tt, refl))
-    from_stat (λ _. refl)
+    from_stat (λ _ _. refl)
 
 quit_code : IsCode request_text (Kind 7) (word_at (codes "QUIT\n") Quit)
 unfolding kind request_text
 quit_code =
     made_code (λ _. Quit) request_text (Kind 7) (literal_code (codes "QUIT\n")) (λ _ _. (tt, refl))
-    from_quit (λ _. refl)
+    from_quit (λ _ _. refl)
 
 last : (r : Request) → kind r ≤ 7
 unfolding kind

@@ -45,14 +45,17 @@ number_at least most end (b ∷ bytes) = cond (begins least most b) (digits_at m
 unfoldable pub piece_at : ℕ → List ℕ → Result (List ℕ × List ℕ) Stop
 piece_at n bytes = cond (nat_lt (length bytes) n) (Err Short) (Ok (take n bytes, drop n bytes))
 
+-- the length of a piece, and the piece in a line of its own
+unfoldable pub sized_at : ℕ → ℕ → List ℕ → Result (List ℕ × List ℕ) Stop
+sized_at least most bytes = do
+  len ← number_at least most 10 bytes
+  piece ← piece_at len.0 len.1
+  last ← literal_at (10 ∷ []) piece.1
+  Ok (piece.0, last.1)
+
 -- behind this verb the length of a key, and the key
 unfoldable pub keyed_at : List ℕ → List ℕ → Result (List ℕ × List ℕ) Stop
-keyed_at verb bytes = do
-  begun ← literal_at verb bytes
-  len ← number_at 1 LONGEST_KEY 10 begun.1
-  key ← piece_at len.0 len.1
-  last ← literal_at (10 ∷ []) key.1
-  Ok (key.0, last.1)
+keyed_at verb bytes = literal_at verb bytes >>= λ begun. sized_at 1 LONGEST_KEY begun.1
 
 -- behind this verb the lengths of a key and of a value, and both
 unfoldable pub paired_at : List ℕ → List ℕ → Result ((List ℕ × List ℕ) × List ℕ) Stop

@@ -1,7 +1,7 @@
-//! The parts of a request: words, numbers and pieces. Each reader gives what it read and the bytes
-//! after it.
+//! The parts of requests and replies: words, numbers and pieces. Each reader gives what it read and
+//! the bytes after it.
 ghost use Rattle.std.specs.Prelude.{◌≡◌, ◌+◌, ◌-◌, ◌*◌, ◌≤◌, ◌<◌};
-ghost use Rattle.bk_wire.specs.Reading.{Gives, goes_on, keyed_at, literal_at, number_at, paired_at, piece_at};
+ghost use Rattle.bk_wire.specs.Reading.{Gives, goes_on, keyed_at, literal_at, number_at, paired_at, piece_at, sized_at};
 
 use crate::stops::Stop;
 use bk_base::limits::{LONGEST_KEY, LONGEST_VALUE};
@@ -73,16 +73,25 @@ pub fn piece(len: u32, bytes: &[u8]) -> Result<(&[u8], &[u8]), Stop>
     Ok(bytes.split_at(len as usize))
 }
 
+/// Reads the length of a piece, from `least` to `most`, and the piece in a line of its own.
+#[tactic(auto, unfolding(crate::specs::Reading::sized_at))]
+pub fn sized(least: u32, most: u32, bytes: &[u8]) -> Result<(&[u8], &[u8]), Stop>
+    requires { most ≤ 100000000 }
+    ensures { Gives (λ x. (x.0.now, x.1.now)) result (sized_at least most bytes.now) }
+{
+    let (len, rest) = number(least, most, b'\n', bytes)?;
+    let (piece, rest) = piece(len, rest)?;
+    let rest = literal(b"\n", rest)?;
+    Ok((piece, rest))
+}
+
 /// Reads this verb, a key's length and the key.
 #[tactic(auto, unfolding(crate::specs::Reading::keyed_at))]
 pub fn keyed<'a>(verb: &[u8], bytes: &'a [u8]) -> Result<(&'a [u8], &'a [u8]), Stop>
     ensures { Gives (λ x. (x.0.now, x.1.now)) result (keyed_at verb.now bytes.now) }
 {
     let rest = literal(verb, bytes)?;
-    let (len, rest) = number(1, LONGEST_KEY, b'\n', rest)?;
-    let (key, rest) = piece(len, rest)?;
-    let rest = literal(b"\n", rest)?;
-    Ok((key, rest))
+    sized(1, LONGEST_KEY, rest)
 }
 
 /// A key and a value, where they were found.

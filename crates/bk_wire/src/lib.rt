@@ -1,17 +1,24 @@
-//! The wire protocol: a reader of requests that come in any pieces, and the texts of replies.
+//! The wire protocol: a reader of requests that come in any pieces, and replies, written and read.
 #![tactic(auto)]
 
 mod digits;
 mod fields;
 mod laws;
+mod numbers;
+mod owned;
 mod reader;
 mod replies;
+mod reply_reader;
 mod requests;
 mod stops;
+mod words;
 
-pub use laws::{one_answer, one_request};
+pub use laws::{one_answer, one_reading, one_reply, one_request, read_back};
 pub use reader::{Next, Reader};
 pub use replies::write_reply;
+pub use reply_reader::{ReadReply, ReplyStop, read_reply};
 
+#[cfg(test)]
+mod reply_tests;
 #[cfg(test)]
 mod tests;

@@ -1,10 +1,10 @@
 //! The texts of replies.
 ghost use Rattle.std.specs.Prelude.{◌≡◌, ◌+◌, ◌≤◌, ◌++◌, ◌∷◌, [], length, OnOk, OnErr, codes, vec_len, vec_capacity};
 ghost use Rattle.std.specs.Fmt.{decimal};
-ghost use Rattle.bk_laws.specs.Wire.{line, numbered, and_hex, and_number, full_word, reply_text};
+ghost use Rattle.bk_laws.specs.Wire.{line, numbered, and_hex, and_number, full_word, reply_text, FitsReply};
 
 use crate::digits::{Digits, hex};
-use bk_base::{Full, Memory, Reply};
+use bk_base::{FileId, Full, Memory, Reply, Seq};
 
 /// How many bytes a number and the byte behind it have at the most.
 const NUMBER: usize = 40;
@@ -180,23 +180,25 @@ fn write_full(out: &mut Vec<u8>, full: Full) -> Result<(), Memory>
     }
 }
 
-/// Writes a reply at the end of `out`. Out of memory, `out` is as it was.
+/// Writes a reply at the end of `out`. Out of memory, `out` is as it was. Each reply that a program
+/// holds is one of the grammar.
 #[tactic(auto, unfolding(bk_laws::specs::Wire::reply_text))]
 pub fn write_reply(reply: &Reply, out: &mut Vec<u8>) -> Result<(), Memory>
+    ensures fits { FitsReply reply.now }
     ensures ok { OnOk result (out.new.items ≡ out.old.items ++ reply_text reply.now) }
     ensures err { OnErr result (out.new.items ≡ out.old.items) }
 {
     match reply {
         Reply::Value(value) => write_piece(out, b"VALUE ", value.bytes()),
         Reply::Absent => write_text(out, b"NONE\n"),
-        Reply::Numbered(seq) => write_number(out, b"OK ", seq.0.into()),
+        Reply::Numbered(Seq(seq)) => write_number(out, b"OK ", (*seq).into()),
         Reply::Pair { key, value } => write_pair(out, key.bytes(), value.bytes()),
         Reply::Key(key) => write_piece(out, b"KEY ", key.bytes()),
         Reply::End(lines) => write_number(out, b"END ", (*lines).into()),
-        Reply::Synced(seq) => write_number(out, b"SYNCED ", seq.0.into()),
+        Reply::Synced(Seq(seq)) => write_number(out, b"SYNCED ", (*seq).into()),
         Reply::Merged { inputs, outputs } => write_merged(out, *inputs, *outputs),
         Reply::Held(files) => write_number(out, b"HELD ", (*files).into()),
-        Reply::Job(id) => write_number(out, b"JOB ", id.0.into()),
+        Reply::Job(FileId(id)) => write_number(out, b"JOB ", (*id).into()),
         Reply::Stat {
             keys,
             files,

@@ -1,13 +1,13 @@
 //! Finds the request at the front of some bytes.
 ghost use Rattle.bk_wire.specs.Reading.{Gives, command_at, delete_at, get_at, put_at, request_at, word_at};
 ghost use Rattle.bk_wire.specs.Found.{request_of, Finds};
-ghost use Rattle.bk_base.specs.Bounds.{IsKey, IsValue};
 ghost use Rattle.bk_laws.specs.Wire.{Fits};
 ghost use Rattle.std.specs.Prelude.{◌≡◌, IfOk};
 
 use crate::fields::{keyed, literal, paired};
+use crate::owned::{owned_key, owned_value};
 use crate::stops::Stop;
-use bk_base::{Key, Memory, Request, Value};
+use bk_base::{Memory, Request};
 use std::alloc::Global;
 
 /// A request that was found, its key and its value still where they were found.
@@ -43,22 +43,6 @@ impl Found<'_> {
             Found::Quit => Ok(Request::Quit),
         }
     }
-}
-
-fn owned_key(alloc: Global, bytes: &[u8]) -> Result<Key, Memory>
-    requires { IsKey bytes.now }
-    ensures { IfOk result (λ key. key ≡ bytes.now) }
-{
-    let bytes = bytes.to_vec(alloc).map_err(|_| Memory)?;
-    Ok(Key::new(bytes).unwrap())
-}
-
-fn owned_value(alloc: Global, bytes: &[u8]) -> Result<Value, Memory>
-    requires { IsValue bytes.now }
-    ensures { IfOk result (λ value. value ≡ bytes.now) }
-{
-    let bytes = bytes.to_vec(alloc).map_err(|_| Memory)?;
-    Ok(Value::new(bytes).unwrap())
 }
 
 fn get(bytes: &[u8]) -> Result<(Found<'_>, &[u8]), Stop>
