@@ -1,8 +1,7 @@
 -- The clauses of a call, from what its entries are.
-use Rattle.std.proofs.Common.{◌≡◌, ◌<◌, ◌≤◌, ℕ, Bool, true, false, List, [], Option, Some, None, Result, Ok, Err, refl, sym, ap, ◌∙◌, subst, min, arith, IsOk, OnErr}
+use Rattle.std.proofs.Common.{◌≡◌, ◌<◌, ◌≤◌, ℕ, false, List, Option, None, Result, Ok, Err, refl, min, arith, IsOk, OnErr}
 use Rattle.bk_base.specs.declared.writes.Version.{Version}
-use Rattle.bk_keydir.specs.declared.slots.Slot.{Slot}
-use Rattle.bk_keydir.specs.Slots.{IsOpen, has_open}
+use Rattle.bk_keydir.specs.Slots.{has_open}
 use Rattle.bk_keydir.specs.Keydir.{Entry, IsNewer, Shown, edited_at, left_by_prune, newest_of, pruned, replaced, versions_at, versions_of, with_version}
 use Rattle.bk_keydir.specs.Folds.{KeepsFolds}
 use Rattle.bk_keydir.specs.Counts.{PruneCounts, PutCounts}

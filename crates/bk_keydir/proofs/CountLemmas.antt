@@ -1,13 +1,13 @@
 -- By how much a change of the entries changes the counts of a file.
-use Rattle.std.proofs.Common.{◌≡◌, ℕ, zero, suc, ◌+◌, ◌-◌, ◌<◌, ◌≤◌, ◌==◌, ◌&&◌, Bool, true, false, cond, not, List, [], ◌∷◌, Option, Some, None, refl, sym, ap, ◌∙◌, arith, inl, inr, length, get_or, filter}
-use Rattle.std.specs.List.{find, sum_by, swap_remove}
+use Rattle.std.proofs.Common.{◌≡◌, ℕ, zero, suc, ◌+◌, ◌<◌, Bool, true, List, [], ◌∷◌, Option, refl, sym, ap, ◌∙◌, arith, inl, inr, length, get_or}
+use Rattle.std.specs.List.{find, sum_by}
 use Rattle.std.specs.Str.{bytes_eq}
 use Rattle.std.proofs.lemmas.Bool.{cases_Bool}
 use Rattle.std.proofs.lemmas.List.Sums.{sum_by-cons, sum_by-swap_remove}
 use Rattle.bk_base.specs.declared.numbers.FileId.{FileId}
 use Rattle.bk_base.specs.declared.writes.Version.{Version}
 use Rattle.bk_keydir.specs.declared.slots.Slot.{Slot}
-use Rattle.bk_keydir.specs.Keydir.{Entry, dropped_at, edited, edited_at, is_lone_gone, is_put_of, is_unseen, keeps_newest, left_by_prune, moved, newest_of, newest_placed, older_of, placed, pruned, put_over, replaced, versions_at, versions_of, with_version, without_first, without_gone}
+use Rattle.bk_keydir.specs.Keydir.{Entry, dropped_at, edited, edited_at, is_lone_gone, is_put_of, is_unseen, keeps_newest, left_by_prune, moved, newest_of, newest_placed, pruned, put_over, replaced, versions_at, versions_of, with_version, without_first, without_gone}
 use Rattle.bk_keydir.specs.Counts.{MoveCounts, PruneCounts, PutCounts, SameCounts, bytes_if, bytes_in, live_of, one_if, one_in, refs_in, refs_of}
 
 -- A put

@@ -1,8 +1,8 @@
 -- What a change of the entries leaves to an open fold.
-use Rattle.std.proofs.Common.{◌≡◌, ℕ, zero, suc, ◌+◌, ◌<◌, ◌≤◌, ◌==◌, ◌&&◌, ◌||◌, Bool, true, false, cond, not, List, [], ◌∷◌, ◌++◌, Option, Some, None, refl, sym, ap, ◌∙◌, subst, arith, inl, inr, length, map, take, drop, get_or, append_assoc, leb, ltb, eqb}
+use Rattle.std.proofs.Common.{◌≡◌, ℕ, zero, suc, ◌+◌, ◌<◌, ◌≤◌, ◌&&◌, Bool, true, false, List, [], ◌∷◌, ◌++◌, Option, Some, None, refl, sym, ap, ◌∙◌, subst, arith, inl, inr, length, map, take, drop, append_assoc, leb, eqb}
 use Rattle.std.specs.List.{AllByRecursion, IsDistinct, list_any}
 use Rattle.std.specs.Map.{keys_of}
-use Rattle.std.specs.Option.{is_some, option_map}
+use Rattle.std.specs.Option.{is_some}
 use Rattle.std.specs.Str.{bytes_eq}
 use Rattle.std.proofs.lemmas.Bool.{cases_Bool, eq-eqb, eqb-true}
 use Rattle.std.proofs.lemmas.Bool.Decides.{nat_tests}
@@ -11,9 +11,9 @@ use Rattle.std.proofs.lemmas.Slice.Eq.{bytes_eq-Decides}
 use Rattle.bk_base.specs.declared.numbers.FileId.{FileId}
 use Rattle.bk_base.specs.declared.writes.Version.{Version}
 use Rattle.bk_keydir.specs.declared.slots.Slot.{Slot}
-use Rattle.bk_keydir.specs.Slots.{IsOpen, at_epoch, has_open, has_seq, is_seen, past, reaches, reaches_in, sees, slot_at}
-use Rattle.bk_keydir.specs.Keydir.{Entry, FallsBelow, IsNewer, IsNewerThan, Shown, edited, edited_at, is_put_of, is_unseen, keeps_newest, key_at, left_by_prune, moved, newest_placed, older_of, placed, put_over, versions_at, versions_of, with_version, without_first}
-use Rattle.bk_keydir.specs.Folds.{IsNextPair, KeepsFolds, MovedTo, SameTo, has_listed, is_listed, listing, pair_if, pair_moved, seen_moved, still_lists}
+use Rattle.bk_keydir.specs.Slots.{IsOpen, at_epoch, has_open, has_seq, is_seen, reaches, reaches_in, sees, slot_at}
+use Rattle.bk_keydir.specs.Keydir.{Entry, edited, edited_at, is_put_of, is_unseen, keeps_newest, key_at, left_by_prune, moved, put_over, versions_at, versions_of, with_version, without_first}
+use Rattle.bk_keydir.specs.Folds.{IsNextPair, MovedTo, SameTo, is_listed, listing, pair_if, pair_moved, seen_moved}
 use Rattle.bk_keydir.specs.Kept.{AreChains, IsChain}
 use Rattle.bk_keydir.proofs.SlotLemmas.{unseen_below}
 
@@ -203,8 +203,10 @@ same-prune slots s n es o = same_to s es (edited_at n (left_by_prune slots) es) 
 
 pub listing-at : (ttl : ℕ) (s : Slot) (n : ℕ) (es : List Entry) → n < length es
     → (key : List ℕ) × (key_at n es ≡ Some key)
-    × (listing ttl s (drop n es) ≡ pair_if (is_listed ttl s (at_epoch s.epoch.0 (versions_at n es))) key (at_epoch s.epoch.0 (versions_at n es)) ++ listing ttl s (drop (suc n) es))
-    × (listing ttl s (take (suc n) es) ≡ listing ttl s (take n es) ++ pair_if (is_listed ttl s (at_epoch s.epoch.0 (versions_at n es))) key (at_epoch s.epoch.0 (versions_at n es)))
+    × (listing ttl s (drop n es) ≡ pair_if (is_listed ttl s (at_epoch s.epoch.0 (versions_at n es))) key (at_epoch s.epoch.0 (versions_at n es))
+    ++ listing ttl s (drop (suc n) es))
+    × (listing ttl s (take (suc n) es) ≡ listing ttl s (take n es)
+    ++ pair_if (is_listed ttl s (at_epoch s.epoch.0 (versions_at n es))) key (at_epoch s.epoch.0 (versions_at n es)))
 listing-at ttl s n [] low = absurd (omega (arith, low))
 listing-at ttl s zero (e ∷ es) low = (e.0, refl, refl, append-nil (pair_if (is_listed ttl s (at_epoch s.epoch.0 e.1)) e.0 (at_epoch s.epoch.0 e.1)))
 listing-at ttl s (suc n) (e ∷ es) low =

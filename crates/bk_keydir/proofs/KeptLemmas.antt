@@ -1,5 +1,5 @@
 -- The table's entries, and what a keydir shows of them.
-use Rattle.std.proofs.Common.{◌≡◌, ℕ, zero, suc, ◌+◌, ◌-◌, ◌<◌, ◌≤◌, Bool, true, false, cond, not, List, [], ◌∷◌, ◌++◌, Option, Some, None, refl, sym, ap, ◌∙◌, subst, arith, inl, inr, length, map, take, filter, slice_get, slice_set, get_or, is_some}
+use Rattle.std.proofs.Common.{◌≡◌, ℕ, zero, suc, ◌+◌, ◌-◌, ◌<◌, ◌≤◌, Bool, false, not, List, [], ◌∷◌, Option, Some, None, refl, sym, ap, ◌∙◌, subst, arith, inl, inr, length, map, take, filter, slice_get, slice_set, get_or, is_some}
 use Rattle.std.specs.Map.{keys_of, lookup}
 use Rattle.std.specs.List.{find, position_or_len, swap_remove}
 use Rattle.std.specs.Str.{bytes_eq}
@@ -15,7 +15,7 @@ use Rattle.bk_base.specs.Places.{IsFirstOf}
 use Rattle.bk_keydir.specs.declared.kept.Kept.{Kept}
 use Rattle.bk_keydir.specs.declared.slots.Slot.{Slot}
 use Rattle.bk_keydir.specs.Kept.{AreChains, IsChain, all_shown, shown, versions_if, versions_in}
-use Rattle.bk_keydir.specs.Keydir.{Entry, FallsBelow, IsNewerThan, dropped_at, edited, edited_at, is_lone_gone, is_put_of, is_unseen, keeps_newest, key_at, left_by_prune, moved, older_of, pruned, put_over, versions_at, versions_of, with_version, without_first, without_gone}
+use Rattle.bk_keydir.specs.Keydir.{Entry, FallsBelow, IsNewerThan, dropped_at, edited, edited_at, is_lone_gone, is_put_of, is_unseen, keeps_newest, key_at, left_by_prune, moved, pruned, put_over, versions_at, versions_of, with_version, without_first, without_gone}
 
 -- A look-up, and a read by position
 
@@ -38,7 +38,8 @@ length-shown es = length-map es shown
 pub versions_at-shown : (n : ℕ) (es : List (List ℕ × Kept)) (e : List ℕ × Kept) → slice_get es n ≡ Some e
     → (versions_at n (all_shown es) ≡ versions_in e.1) × (key_at n (all_shown es) ≡ Some e.0)
 versions_at-shown n [] e at = absurd (cc at)
-versions_at-shown zero (x ∷ es) e at = let is : x ≡ e = cc at in (ap (λ (y : List ℕ × Kept). versions_in y.1) is, ap (λ (y : List ℕ × Kept). Some y.0) is)
+versions_at-shown zero (x ∷ es) e at = let is : x ≡ e = cc at in
+    (ap (λ (y : List ℕ × Kept). versions_in y.1) is, ap (λ (y : List ℕ × Kept). Some y.0) is)
 versions_at-shown (suc n) (x ∷ es) e at = versions_at-shown n es e at
 
 pub versions_at-past : (n : ℕ) (es : List Entry) → length es ≤ n → versions_at n es ≡ []

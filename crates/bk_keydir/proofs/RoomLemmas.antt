@@ -1,10 +1,8 @@
 -- Room for a version, and a version that is newer than all others.
-use Rattle.std.proofs.Common.{◌≡◌, ◌↔◌, ℕ, ◌+◌, ◌<◌, Bool, true, false, not, List, [], ◌∷◌, Option, Some, None, refl, sym, ap, ◌∙◌, arith, length, IsTrue}
-use Rattle.std.specs.List.{list_any}
-use Rattle.std.specs.Option.{is_some}
+use Rattle.std.proofs.Common.{◌≡◌, ◌↔◌, ℕ, ◌<◌, Bool, true, false, not, List, [], ◌∷◌, Option, Some, None, refl, sym, ap, ◌∙◌, length, IsTrue}
 use Rattle.bk_base.specs.declared.writes.Version.{Version}
 use Rattle.bk_keydir.specs.declared.slots.Slot.{Slot}
-use Rattle.bk_keydir.specs.Slots.{has_open, is_seen, reaches, sees}
+use Rattle.bk_keydir.specs.Slots.{has_open, is_seen, reaches}
 use Rattle.bk_keydir.specs.Keydir.{HasRoomFor, IsNewer, IsNewerThan, Shown, keeps_newest, newest_of, versions_of}
 use Rattle.bk_keydir.specs.Kept.{IsChain}
 use Rattle.bk_keydir.proofs.SlotLemmas.{is_seen-newest}

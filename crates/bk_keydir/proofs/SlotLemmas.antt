@@ -1,13 +1,13 @@
 -- What the slots see of a key's versions, by the epochs alone.
-use Rattle.std.proofs.Common.{◌≡◌, ℕ, zero, suc, ◌+◌, ◌<◌, ◌≤◌, ◌==◌, ◌||◌, ◌&&◌, Bool, true, false, cond, List, [], ◌∷◌, Option, Some, None, refl, sym, ap, ◌∙◌, arith, inl, inr, slice_get, slice_set, length, get_or, leb, ltb}
-use Rattle.std.specs.Option.{is_some, is_none}
+use Rattle.std.proofs.Common.{◌≡◌, ℕ, zero, suc, ◌<◌, ◌≤◌, ◌||◌, Bool, true, false, cond, List, [], ◌∷◌, Option, Some, None, refl, ◌∙◌, arith, inl, inr, slice_get, leb, ltb}
+use Rattle.std.specs.Option.{is_some}
 use Rattle.std.specs.List.{fold, list_any}
 use Rattle.std.proofs.lemmas.Bool.{cases_Bool, eq-eqb}
 use Rattle.std.proofs.lemmas.Bool.Decides.{nat_tests}
 use Rattle.bk_base.specs.declared.numbers.Seq.{Seq}
 use Rattle.bk_base.specs.declared.writes.Version.{Version}
 use Rattle.bk_keydir.specs.declared.slots.Slot.{Slot}
-use Rattle.bk_keydir.specs.Slots.{IsOpen, at_epoch, has_open, has_seq, higher, highest_of, is_seen, is_up_to, lies_in, reaches, reaches_in, sees, slot_at, within}
+use Rattle.bk_keydir.specs.Slots.{at_epoch, has_open, has_seq, higher, highest_of, is_seen, is_up_to, lies_in, reaches, reaches_in, sees, within}
 use Rattle.bk_keydir.specs.Keydir.{FallsBelow}
 
 same_any : {X : Type 0} (f g : X → Bool) → ((x : X) → f x ≡ g x) → (xs : List X) → list_any f xs ≡ list_any g xs

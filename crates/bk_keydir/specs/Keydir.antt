@@ -1,5 +1,5 @@
 -- What a keydir shows, and what its calls make of it.
-use Rattle.std.specs.Prelude.{◌≡◌, ℕ, zero, suc, ◌<◌, ◌==◌, ◌&&◌, Bool, true, false, not, cond, is_some, List, [], ◌∷◌, length, filter, Option, None, Some}
+use Rattle.std.specs.Prelude.{◌≡◌, ℕ, zero, suc, ◌<◌, ◌==◌, ◌&&◌, Bool, true, false, not, cond, List, [], ◌∷◌, length, filter, Option, None, Some}
 use Rattle.std.specs.List.{find, swap_remove}
 use Rattle.std.specs.Str.{bytes_eq}
 use Rattle.bk_base.specs.declared.numbers.FileId.{FileId}

@@ -1,5 +1,5 @@
 -- The folds that are open, and which version of a key one sees.
-use Rattle.std.specs.Prelude.{◌≡◌, ℕ, zero, suc, ◌+◌, ◌<◌, ◌==◌, Bool, false, ◌&&◌, cond, is_some, is_none, nat_le, nat_lt, List, [], ◌∷◌, slice_index_or, position, Option, None, Some}
+use Rattle.std.specs.Prelude.{◌≡◌, ℕ, ◌+◌, ◌==◌, Bool, false, ◌&&◌, cond, is_some, is_none, nat_le, nat_lt, List, slice_index_or, position, Option, None, Some}
 use Rattle.std.specs.List.{find, fold, list_any}
 use Rattle.bk_base.specs.declared.numbers.Moment.{Moment}
 use Rattle.bk_base.specs.declared.numbers.Seq.{Seq}

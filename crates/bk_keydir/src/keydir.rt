@@ -202,6 +202,13 @@ impl Keydir {
         })
     }
 
+    /// Whether a fold is open.
+    pub fn has_folds(&self) -> bool
+        ensures { result ≡ has_open self.now.slots }
+    {
+        self.slots.has_open()
+    }
+
     /// The fold in this slot.
     pub fn fold(&self, slot: u8) -> Option<Slot>
         ensures { result ≡ slot_at self.now.slots slot }

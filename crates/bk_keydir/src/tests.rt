@@ -7,9 +7,7 @@ use std::alloc::Global;
 use std::test::Fail;
 
 // A version of 100 bytes in file 1.
-fn version(seq: u64, gone: bool) -> Version
-    ensures seq { result.seq.0 ≡ seq }
-{
+fn version(seq: u64, gone: bool) -> Version {
     Version {
         seq: Seq(seq),
         at: seq,
@@ -21,39 +19,35 @@ fn version(seq: u64, gone: bool) -> Version
     }
 }
 
-// The key of one letter or of two.
-fn key(alloc: Global, number: u64) -> Result<Key, Fail> {
-    let letters = [b'a' + (number % 26) as u8, b'a' + (number / 26 % 26) as u8];
+// The key of two letters with this number.
+fn key(alloc: Global, number: u8) -> Result<Key, Fail> {
+    let letters = [b'a' + number % 26, b'a' + number / 26];
     Ok(Key::new(letters.to_vec(alloc)?)?)
 }
 
-fn put(keydir: &mut Keydir, key: Key, seq: u64, gone: bool) -> Result<Option<Version>, Fail> {
+// Puts a version, or a tombstone, and gives the seq of the version that went.
+fn put(alloc: Global, keydir: &mut Keydir, number: u8, seq: u64, gone: bool) -> Result<u64, Fail> {
+    let key = key(alloc, number)?;
     keydir.ready(&key)?;
-    if !keydir.is_newer(&key, Seq(seq)) {
+    let version = version(seq, gone);
+    if !keydir.is_newer(&key, version.seq) {
         return Err("the seq isn't newer")?;
     }
-    Ok(keydir.put_version(key, version(seq, gone)))
+    Ok(seq_of(keydir.put_version(key, version)))
 }
 
-// The seqs of a key's versions.
-fn seqs_at(alloc: Global, keydir: &Keydir, position: u64) -> Result<Vec<u64>, Fail> {
-    let mut seqs = Vec::new(alloc);
-    if position >= keydir.len() {
-        return Ok(seqs);
+fn seq_of(version: Option<Version>) -> u64 {
+    match version {
+        Some(version) => version.seq.0,
+        None => 0,
     }
-    for number in 0..100u64 {
-        if let Some(version) = keydir.version_at(position, number) {
-            seqs.push(version.seq.0)?;
-        }
-    }
-    Ok(seqs)
 }
 
-fn prune(keydir: &mut Keydir, position: u64) -> Option<Version> {
+fn prune(keydir: &mut Keydir, position: u64) -> u64 {
     if position < keydir.len() {
-        return keydir.prune_at(position);
+        return seq_of(keydir.prune_at(position));
     }
-    None
+    0
 }
 
 fn drop_key(keydir: &mut Keydir, position: u64) -> bool {
@@ -66,199 +60,193 @@ fn close(keydir: &mut Keydir, slot: u8) {
     }
 }
 
-// The next pair that a fold lists, as the key and the version's seq.
-fn next(keydir: &mut Keydir, slot: u8) -> Result<Option<(Key, u64)>, Fail> {
+fn open(keydir: &mut Keydir, epoch: u64) -> Option<u8> {
+    keydir.open_fold(epoch, Seq(epoch), Moment(0)).ok()
+}
+
+// The seq of the next version that a fold lists, or 0.
+fn next(keydir: &mut Keydir, slot: u8) -> u64 {
     if keydir.fold(slot).is_none() {
-        return Ok(None);
+        return 0;
     }
     let Some(position) = keydir.next_at(slot, 0) else {
-        return Ok(None);
+        return 0;
     };
-    if position >= keydir.len() {
-        return Err("a position past the end")?;
+    let seq = seq_of(keydir.seen_at(slot, position));
+    if position < keydir.len() {
+        keydir.step(slot, position);
     }
-    let key = keydir.key_at(position).copy()?;
-    let seen = keydir.seen_at(slot, position).ok_or("nothing seen")?;
-    keydir.step(slot, position);
-    Ok(Some((key, seen.seq.0)))
+    seq
+}
+
+// The seqs of the newest versions that are puts, in the order of their keys.
+fn live_seqs(alloc: Global, keydir: &Keydir) -> Result<Vec<u64>, Fail> {
+    let mut seqs = Vec::new(alloc);
+    for position in 0..keydir.len() {
+        if let Some(newest) = keydir.version_at(position, 0) {
+            if !newest.gone {
+                seqs.push(newest.seq.0)?;
+            }
+        }
+    }
+    Ok(seqs)
+}
+
+fn move_newest(alloc: Global, keydir: &mut Keydir, number: u8, at: u64) -> Result<bool, Fail> {
+    let key = key(alloc, number)?;
+    let seq = Seq(seq_of(keydir.newest(&key)));
+    Ok(keydir.move_if(&key, seq, FileId(2), at))
+}
+
+// One change: a put, a delete, a move, a prune, or a drop, which a fold forbids.
+fn change(alloc: Global, keydir: &mut Keydir, what: u64, number: u8, seq: u64) -> Result<(), Fail> {
+    match what {
+        0 => put(alloc, keydir, number, seq, false).map(|_| ()),
+        1 => put(alloc, keydir, number, seq, true).map(|_| ()),
+        2 => move_newest(alloc, keydir, number, seq).map(|_| ()),
+        3 => {
+            prune(keydir, u64::from(number));
+            Ok(())
+        }
+        _ => {
+            drop_key(keydir, u64::from(number));
+            Ok(())
+        }
+    }
+}
+
+// A keydir of 40 keys, every seventh of which is gone.
+fn forty_keys(alloc: Global) -> Result<Keydir, Fail> {
+    let mut keydir = Keydir::new(alloc);
+    for number in 0..40u8 {
+        put(
+            alloc,
+            &mut keydir,
+            number,
+            u64::from(number) + 1,
+            number % 7 == 0,
+        )?;
+    }
+    Ok(keydir)
+}
+
+// What the fold lists while 300 changes are made, a step after each eighth of them.
+fn listed_meanwhile(alloc: Global, keydir: &mut Keydir, slot: u8) -> Result<Vec<u64>, Fail> {
+    let mut seqs = Vec::new(alloc);
+    for turn in 0..300u64 {
+        let mixed = turn.wrapping_mul(2_654_435_761) >> 7;
+        change(alloc, keydir, mixed % 5, (mixed / 5 % 40) as u8, turn + 41)?;
+        if turn % 8 == 7 {
+            seqs.push(next(keydir, slot))?;
+        }
+    }
+    Ok(seqs)
+}
+
+#[test]
+fn a_fold_lists_its_epoch_whatever_changes(rt: HostRuntime) -> Result<(), Fail> {
+    let mut keydir = forty_keys(rt.alloc())?;
+    let wanted = live_seqs(rt.alloc(), &keydir)?;
+    let slot = open(&mut keydir, 40).ok_or("full")?;
+    let listed = listed_meanwhile(rt.alloc(), &mut keydir, slot)?;
+    assert_eq!(rt; listed.get(..wanted.len()), Some(wanted.as_slice()));
+    assert_eq!(rt; next(&mut keydir, slot), 0);
+    Ok(())
+}
+
+// The slots of so many folds, opened one after the other.
+fn opened(alloc: Global, keydir: &mut Keydir, count: u64) -> Result<Vec<Option<u8>>, Fail> {
+    let mut slots = Vec::new(alloc);
+    for epoch in 0..count {
+        slots.push(open(keydir, epoch))?;
+    }
+    Ok(slots)
 }
 
 #[test]
 fn sixty_four_folds_fill_the_slots(rt: HostRuntime) -> Result<(), Fail> {
     let mut keydir = Keydir::new(rt.alloc());
-    for slot in 0..64u8 {
-        let opened = keydir.open_fold(u64::from(slot) + 100, Seq(5), Moment(9));
-        assert_eq!(rt; opened, Ok(slot));
-    }
+    let slots = opened(rt.alloc(), &mut keydir, 65)?;
+    assert_eq!(rt;
+        slots.get(62..),
+        Some([Some(62), Some(63), None].as_slice())
+    );
     assert_eq!(rt; keydir.open_fold(1, Seq(5), Moment(9)), Err(FullFolds));
-    assert_eq!(rt; keydir.owner(17), Some(117));
     close(&mut keydir, 40);
     close(&mut keydir, 17);
-    assert_eq!(rt; keydir.owner(17), None);
-    assert_eq!(rt; keydir.owner(64), None);
-    assert_eq!(rt; keydir.open_fold(7, Seq(6), Moment(9)), Ok(17));
-    assert_eq!(rt; keydir.owner(17), Some(7));
-    assert_eq!(rt; keydir.owner(18), Some(118));
+    assert_eq!(rt; open(&mut keydir, 99), Some(17));
+    let owners = [keydir.owner(17), keydir.owner(40), keydir.owner(64)];
+    assert_eq!(rt; owners, [Some(99), None, None]);
     Ok(())
 }
 
-// A number from 0 below `most`, and the next state.
-fn draw(state: u64, most: u64) -> (u64, u64) {
-    let next = state
-        .wrapping_mul(6_364_136_223_846_793_005)
-        .wrapping_add(1_442_695_040_888_963_407);
-    if most == 0 {
-        return (0, next);
-    }
-    ((next >> 33) % most, next)
-}
-
-// The live keys in the order of their positions, each with the seq of its newest version.
-fn live_pairs(alloc: Global, keydir: &Keydir) -> Result<Vec<(Key, u64)>, Fail> {
-    let mut pairs = Vec::new(alloc);
-    for position in 0..keydir.len() {
-        if let Some(newest) = keydir.version_at(position, 0) {
-            if !newest.gone {
-                pairs.push((keydir.key_at(position).copy()?, newest.seq.0))?;
-            }
+// A key with five versions, of which three folds see one each.
+fn seen_by_three(alloc: Global) -> Result<Keydir, Fail> {
+    let mut keydir = Keydir::new(alloc);
+    for seq in 1..6u64 {
+        put(alloc, &mut keydir, 0, seq, false)?;
+        if seq < 4 {
+            let _slot = open(&mut keydir, seq);
         }
     }
-    Ok(pairs)
-}
-
-// One change: a put, a delete, a move, a prune, or a drop, which a fold forbids.
-fn change(
-    alloc: Global,
-    keydir: &mut Keydir,
-    what: u64,
-    number: u64,
-    seq: u64,
-) -> Result<(), Fail> {
-    let key = key(alloc, number)?;
-    match what {
-        0 | 1 | 2 => {
-            put(keydir, key, seq, what == 2)?;
-        }
-        3 => {
-            let newest = keydir.newest(&key).ok_or("no version")?;
-            keydir.move_if(&key, newest.seq, FileId(2), seq);
-        }
-        4 => {
-            prune(keydir, number);
-        }
-        _ => {
-            drop_key(keydir, number);
-        }
-    }
-    Ok(())
-}
-
-#[test]
-fn a_fold_lists_its_epoch_whatever_changes(rt: HostRuntime) -> Result<(), Fail> {
-    let mut keydir = Keydir::new(rt.alloc());
-    let mut state = 2;
-    for number in 0..40u64 {
-        put(
-            &mut keydir,
-            key(rt.alloc(), number)?,
-            number + 1,
-            number % 7 == 0,
-        )?;
-    }
-    let wanted = live_pairs(rt.alloc(), &keydir)?;
-    let slot = keydir.open_fold(1, Seq(40), Moment(0)).map_err(|_| "full")?;
-    let mut listed = Vec::new(rt.alloc());
-    for seq in 41..400u64 {
-        let (what, after_what) = draw(state, 7);
-        let (number, after) = draw(after_what, 40);
-        state = after;
-        if what < 6 {
-            change(rt.alloc(), &mut keydir, what, number, seq)?;
-        } else if let Some(pair) = next(&mut keydir, slot)? {
-            listed.push(pair)?;
-        }
-    }
-    for _ in 0..40u64 {
-        if let Some(pair) = next(&mut keydir, slot)? {
-            listed.push(pair)?;
-        }
-    }
-    assert_eq!(rt; listed.len(), wanted.len());
-    for (found, expected) in listed.iter().zip(wanted.iter()) {
-        assert!(rt; found.0 == expected.0);
-        assert_eq!(rt; found.1, expected.1);
-    }
-    assert_eq!(rt; keydir.next_at(slot, 0), None);
-    Ok(())
+    Ok(keydir)
 }
 
 #[test]
 fn versions_go_as_their_folds_close(rt: HostRuntime) -> Result<(), Fail> {
-    let alloc = rt.alloc();
-    let mut keydir = Keydir::new(alloc);
-    for seq in 1..4u64 {
-        assert_eq!(rt; put(&mut keydir, key(alloc, 0)?, seq, false)?, None);
-        assert_eq!(rt;
-            keydir.open_fold(seq, Seq(seq), Moment(0)),
-            Ok(seq as u8 - 1)
-        );
-    }
-    assert_eq!(rt; put(&mut keydir, key(alloc, 0)?, 4, true)?, None);
-    assert_eq!(rt;
-        put(&mut keydir, key(alloc, 0)?, 5, false)?,
-        Some(version(4, true))
-    );
-    assert_eq!(rt; seqs_at(alloc, &keydir, 0)?, vec![in alloc; 5, 3, 2, 1]?);
-    assert_eq!(rt; prune(&mut keydir, 0), None);
-    for (slot, seq, left) in [(1, 2, 3), (0, 1, 2), (2, 3, 1)] {
-        let epoch = keydir
-            .at_epoch(&key(alloc, 0)?, Seq(seq))
-            .map(|seen| seen.seq);
-        assert_eq!(rt; epoch, Some(Seq(seq)));
+    let mut keydir = seen_by_three(rt.alloc())?;
+    for (slot, went) in [(1, 2), (0, 1), (2, 3)] {
+        let before = prune(&mut keydir, 0);
         close(&mut keydir, slot);
-        assert_eq!(rt; prune(&mut keydir, 0), Some(version(seq, false)));
-        assert_eq!(rt; prune(&mut keydir, 0), None);
-        assert_eq!(rt; seqs_at(alloc, &keydir, 0)?.len(), left);
+        assert_eq!(rt; (before, prune(&mut keydir, 0)), (0, went));
     }
-    assert_eq!(rt; keydir.newest(&key(alloc, 0)?), Some(version(5, false)));
+    assert_eq!(rt; prune(&mut keydir, 0), 0);
+    assert_eq!(rt; live_seqs(rt.alloc(), &keydir)?.as_slice(), [5].as_slice());
     Ok(())
+}
+
+// The positions of the first five keys.
+fn positions(alloc: Global, keydir: &Keydir) -> Result<[Option<u64>; 5], Fail> {
+    let mut found = [None; 5];
+    for (number, position) in found.iter_mut().enumerate() {
+        *position = keydir.position(&key(alloc, number as u8)?);
+    }
+    Ok(found)
 }
 
 #[test]
 fn the_last_key_takes_the_place_of_a_dropped_one(rt: HostRuntime) -> Result<(), Fail> {
-    let alloc = rt.alloc();
-    let mut keydir = Keydir::new(alloc);
-    for number in 0..5u64 {
+    let mut keydir = Keydir::new(rt.alloc());
+    for number in 0..5u8 {
         put(
+            rt.alloc(),
             &mut keydir,
-            key(alloc, number)?,
-            number + 1,
+            number,
+            u64::from(number) + 1,
             number % 2 == 1,
         )?;
     }
-    let slot = keydir.open_fold(1, Seq(5), Moment(0)).map_err(|_| "full")?;
-    assert!(rt; !drop_key(&mut keydir, 1));
+    let slot = open(&mut keydir, 5).ok_or("full")?;
+    let under_a_fold = drop_key(&mut keydir, 1);
     close(&mut keydir, slot);
-    assert!(rt; !drop_key(&mut keydir, 0));
-    assert!(rt; drop_key(&mut keydir, 1));
-    for (number, position) in [
-        (0, Some(0)),
-        (1, None),
-        (2, Some(2)),
-        (3, Some(3)),
-        (4, Some(1)),
-    ] {
-        assert_eq!(rt;
-            keydir.position(&key(alloc, number)?),
-            position,
-            "key {number}"
-        );
+    assert_eq!(rt;
+        (
+            under_a_fold,
+            drop_key(&mut keydir, 0),
+            drop_key(&mut keydir, 1)
+        ),
+        (false, false, true)
+    );
+    assert_eq!(rt;
+        positions(rt.alloc(), &keydir)?,
+        [Some(0), None, Some(2), Some(3), Some(1)]
+    );
+    if !keydir.has_folds() {
+        keydir.drop_gone();
     }
-    assert!(rt; drop_key(&mut keydir, 3));
-    assert_eq!(rt; keydir.len(), 3);
-    put(&mut keydir, key(alloc, 2)?, 9, true)?;
-    keydir.drop_gone();
-    assert_eq!(rt; keydir.len(), 2);
-    assert_eq!(rt; keydir.position(&key(alloc, 4)?), Some(1));
+    assert_eq!(rt;
+        positions(rt.alloc(), &keydir)?,
+        [Some(0), None, Some(2), None, Some(1)]
+    );
     Ok(())
 }

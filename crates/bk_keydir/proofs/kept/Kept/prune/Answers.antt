@@ -1,6 +1,6 @@
-use Rattle.std.proofs.Common.{◌≡◌, ◌+◌, None, Some, List, [], ◌∷◌, sym, ap, ◌∙◌}
+use Rattle.std.proofs.Common.{◌≡◌, None, Some, sym, ◌∙◌}
 use Rattle.std.specs.List.{position}
-use Rattle.bk_keydir.specs.Keydir.{is_unseen, left_by_prune, older_of, pruned}
+use Rattle.bk_keydir.specs.Keydir.{is_unseen, older_of}
 use Rattle.bk_keydir.specs.Kept.{IsChain}
 use Rattle.bk_keydir.proofs.PruneLemmas.{one_left, pruned-none, pruned-some}
 use Rattle.bk_keydir.proofs.kept.Kept.prune.Goals as goal
@@ -38,7 +38,8 @@ returns-then-len-eq1-clause-versions c =
     rw c.deref.ensures.value at (sym c.first_unseen.ensures) ∙ c.in_ok-place.was in
     let left = (pruned-some c.args.slots.now vs c.in_ok-place.place c.remove-version.result chain at c.remove-version.ensures.value).1 in
     rw c.in-Several.is
-    (c.one.ensures ∙ one_left c.remove-version.new.self.items c.index.result.now (sym c.remove-version.new.self.ok.0 ∙ sym c.len.ensures ∙ c.if-len-eq1.true) c.index.ensures
+    (c.one.ensures ∙ one_left c.remove-version.new.self.items c.index.result.now (sym c.remove-version.new.self.ok.0 ∙ sym c.len.ensures ∙ c.if-len-eq1.true)
+    c.index.ensures
     ∙ c.remove-version.ensures.items ∙ left)
 
 pub returns-else-len-eq1-clause-pruned : goal.returns-else-len-eq1-clause-pruned

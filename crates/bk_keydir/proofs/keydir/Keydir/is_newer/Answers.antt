@@ -1,4 +1,4 @@
-use Rattle.std.proofs.Common.{◌≡◌, sym}
+use Rattle.std.proofs.Common.{◌≡◌}
 use Rattle.bk_keydir.specs.Keydir.{IsNewerThan, versions_of}
 use Rattle.bk_keydir.specs.Slots.{reaches}
 use Rattle.bk_keydir.proofs.RoomLemmas.{newer_by}

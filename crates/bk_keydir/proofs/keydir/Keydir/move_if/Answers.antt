@@ -1,9 +1,8 @@
-use Rattle.std.proofs.Common.{◌≡◌, List, [], false, true, sym, ap, ◌∙◌, refl, is_some}
+use Rattle.std.proofs.Common.{◌≡◌, false, true, sym, ◌∙◌, refl, is_some}
 use Rattle.std.specs.List.{IsDistinct}
 use Rattle.std.specs.Map.{keys_of, lookup}
 use Rattle.std.specs.Str.{bytes_eq}
 use Rattle.indexmap.specs.Layout.{set_value_at}
-use Rattle.bk_base.specs.Places.{IsFirstOf}
 use Rattle.bk_base.proofs.Places.{found}
 use Rattle.bk_keydir.specs.Keydir.{edited, is_put_of, moved, versions_of}
 use Rattle.bk_keydir.specs.Kept.{all_shown, versions_in}

@@ -1,5 +1,4 @@
-use Rattle.std.proofs.Common.{◌≡◌, ◌<◌, Some, length, min, arith, sym, ◌∙◌, subst, true, false}
-use Rattle.bk_keydir.specs.declared.slots.Slot.{Slot}
+use Rattle.std.proofs.Common.{◌≡◌, ◌<◌, Some, length, arith, sym, ◌∙◌, subst, true, false}
 use Rattle.bk_keydir.specs.Folds.{IsNextPair, is_listed}
 use Rattle.bk_keydir.specs.Keydir.{versions_at}
 use Rattle.bk_keydir.specs.Slots.{at_epoch}

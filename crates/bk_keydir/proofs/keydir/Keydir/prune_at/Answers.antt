@@ -1,5 +1,5 @@
-use Rattle.std.proofs.Common.{◌≡◌, Some, sym, ap, ◌∙◌, refl, slice_get}
-use Rattle.bk_keydir.specs.Keydir.{Shown, edited_at, left_by_prune, pruned, versions_at}
+use Rattle.std.proofs.Common.{◌≡◌, sym, ap, ◌∙◌, refl}
+use Rattle.bk_keydir.specs.Keydir.{Shown, left_by_prune, pruned}
 use Rattle.bk_keydir.specs.Kept.{all_shown}
 use Rattle.bk_keydir.proofs.CallLemmas.{counts_prune, keeps_prune}
 use Rattle.bk_keydir.proofs.KeptLemmas.{chain-left, chain_at, chains-edited_at, edited_at-same, shown-written_at, versions_at-shown}

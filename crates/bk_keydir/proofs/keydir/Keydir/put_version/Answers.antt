@@ -1,11 +1,11 @@
-use Rattle.std.proofs.Common.{◌≡◌, ◌<◌, ◌∷◌, List, [], Option, None, Some, cond, true, length, sym, ap, ◌∙◌, refl}
+use Rattle.std.proofs.Common.{◌≡◌, ◌<◌, ◌∷◌, [], None, Some, cond, true, length, sym, ap, ◌∙◌, refl}
 use Rattle.std.specs.List.{position_or_len}
 use Rattle.std.specs.Map.{keys_of, lookup}
 use Rattle.std.specs.Str.{bytes_eq}
 use Rattle.indexmap.specs.IndexMap.{insert_entry, spare}
 use Rattle.indexmap.specs.Layout.{set_value_at}
 use Rattle.bk_keydir.specs.Keydir.{HasRoomFor, IsNewerThan, Shown, keeps_newest, older_of, put_over, replaced, versions_of, with_version}
-use Rattle.bk_keydir.specs.Kept.{IsChain, all_shown, room_in, versions_if, versions_in}
+use Rattle.bk_keydir.specs.Kept.{all_shown, room_in, versions_if, versions_in}
 use Rattle.bk_keydir.specs.Slots.{reaches}
 use Rattle.bk_keydir.proofs.CallLemmas.{counts_put, keeps_put, ok_unless}
 use Rattle.bk_keydir.proofs.KeptLemmas.{chain_found, chains-with_version, shown-inserted, shown-inserted_new, versions_of-shown}

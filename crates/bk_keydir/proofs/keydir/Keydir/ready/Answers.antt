@@ -1,6 +1,6 @@
-use Rattle.std.proofs.Common.{◌≡◌, ◌+◌, ◌<◌, ◌≤◌, ◌∙◌, false, true, length, arith, sym, ap}
+use Rattle.std.proofs.Common.{◌≡◌, ◌+◌, ◌<◌, ◌≤◌, ◌∙◌, false, true, arith, sym, ap}
 use Rattle.std.specs.Option.{option_copied}
-use Rattle.bk_keydir.specs.Keydir.{HasRoom, versions_of}
+use Rattle.bk_keydir.specs.Keydir.{versions_of}
 use Rattle.bk_keydir.specs.Kept.{versions_if, versions_in}
 use Rattle.bk_keydir.specs.Slots.{has_open, reaches}
 use Rattle.bk_keydir.proofs.RoomLemmas.{room_closed, room_reached, room_unreached}

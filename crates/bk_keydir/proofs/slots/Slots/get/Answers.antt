@@ -1,4 +1,4 @@
-use Rattle.std.proofs.Common.{◌≡◌, ◌≤◌, None, length, arith, sym}
+use Rattle.std.proofs.Common.{◌≤◌, None, length, arith, sym}
 use Rattle.std.proofs.lemmas.List.{get_or_past}
 use Rattle.bk_keydir.proofs.slots.Slots.get.Goals as goal
 

@@ -1,5 +1,3 @@
-use Rattle.std.proofs.Common.{sym, ap, ◌∙◌}
-use Rattle.bk_keydir.specs.Slots.{is_up_to}
 use Rattle.bk_keydir.proofs.SlotLemmas.{reaches-highest}
 use Rattle.bk_keydir.proofs.slots.Slots.reach.Goals as goal
 
