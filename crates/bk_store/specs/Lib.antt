@@ -1,0 +1,14 @@
+pub mod Shown
+pub mod Versions
+pub mod Folds
+pub mod Rows
+pub mod History
+pub mod Standing
+pub mod Events
+pub mod Starting
+pub mod Loans
+pub mod Errors
+pub mod Appends
+pub mod Writes
+pub mod FoldEvents
+pub mod Sweeps

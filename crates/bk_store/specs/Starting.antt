@@ -1,0 +1,55 @@
+-- What a load of a directory has to give for a store to start.
+use Rattle.std.specs.Prelude.{◌≡◌, ℕ, ◌+◌, ◌<◌, ◌≤◌, true, false, List, [], length, is_some}
+use Rattle.bk_base.specs.declared.histories.Opening.{Opening}
+use Rattle.bk_base.specs.declared.limits.TheConstants.{LAST_SEQ, MOST_FOLDS}
+use Rattle.bk_base.specs.declared.names.Name.{Name}
+use Rattle.bk_base.specs.declared.writes.Version.{Version}
+use Rattle.bk_base.specs.declared.writes.Write.{Write}
+use Rattle.bk_disk.specs.Told.{IsAbsent, Told, at, bytes_of}
+use Rattle.bk_files.specs.Catalog.{main, row_of}
+use Rattle.bk_files.specs.Rows.{AreAtRest, AreFromScratch}
+use Rattle.bk_image.specs.CountedFiles.{HasNoList}
+use Rattle.bk_image.specs.Readings.{In}
+use Rattle.bk_image.specs.SoundDirectory.{IsSoundDisk}
+use Rattle.bk_keydir.specs.declared.loads.Loaded.{Loaded}
+use Rattle.bk_keydir.specs.Keydir.{Entry}
+use Rattle.bk_keydir.specs.Slots.{has_open}
+use Rattle.bk_laws.specs.Log.{last_seq}
+use Rattle.bk_store.specs.Rows.{RowsStand}
+use Rattle.bk_store.specs.Shown.{IsFit, Shown, settings_of, snapshot_of}
+use Rattle.bk_store.specs.Versions.{KeysStand}
+
+-- over every disk: no fold is open, and each version fits its key and was given out
+pub record IsInOrder (l : Loaded) : Type 0 where
+  pub seq : l.last_seq.0 ≤ LAST_SEQ
+  pub no_fold : has_open l.keydir.slots ≡ false
+  pub slots : length l.keydir.slots ≡ MOST_FOLDS
+  pub versions : (e : Entry) (v : Version) → In e l.keydir.entries → In v e.1 → IsFit l.last_seq.0 e.0 v
+
+-- where the disk tells: each row's file is there with the row's length, and no file has a later id
+pub record AreFilesOf (t : Told) (l : Loaded) : Type 0 where
+  pub rows : AreAtRest 1 (l.last_file.0 + 1) l.rows.items t
+  pub free : (n : Name) → l.last_file.0 < n.id → IsAbsent n t.image
+
+-- The directory is sound, synced and without swap lists, and what was loaded is what it says.
+pub record IsLoadOf (t : Told) (l : Loaded) (log : List Write) : Type 0 where
+  pub disk : IsSoundDisk t log
+  pub idle : HasNoList (at t.image)
+  pub seq : l.last_seq.0 ≡ last_seq log
+  pub keys : KeysStand (at t.image) l.keydir.entries log
+  pub totals : AreFromScratch l.rows.items t
+  pub counts : RowsStand l.rows.items l.keydir.entries
+  pub covered : (id : ℕ) → is_some (row_of id l.rows.items) ≡ false → bytes_of (main id) t.image ≡ []
+
+-- the opening of a store's history: the log that was found, and the store as it started
+abbrev pub opening_of : List Write → Shown → Opening
+opening_of log v = record {
+  log = log;
+  folds = [];
+  snapshot = snapshot_of v;
+  settings = settings_of v.settings;
+  faults = v.files.faults;
+  views = v.files.fallible_views;
+  outs = v.files.fallible_outs;
+  whole = true;
+}
