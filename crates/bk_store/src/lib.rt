@@ -22,6 +22,3 @@ pub use prepared::Prepared;
 pub use puts::Stored;
 pub use store::Store;
 pub use sweeps::Stat;
-
-#[cfg(test)]
-mod tests;
