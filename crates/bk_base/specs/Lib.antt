@@ -1,5 +1,6 @@
 pub mod Blanks
 pub mod Bounds
+pub mod KeyBytes
 pub mod Names
 pub mod Status
 pub mod Places

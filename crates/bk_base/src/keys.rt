@@ -6,15 +6,22 @@ ghost use Rattle.std.proofs.Common.{rules};
 ghost use Rattle.bk_base.specs.Bounds.{AreBytes, IsKey};
 
 use crate::errors::Memory;
+use crate::key_bytes::KeyBytes;
 use crate::limits::LONGEST_KEY;
+use std::alloc::Global;
+use std::fmt;
 use std::hash::{Hash, Hasher};
 use std::marker::Model;
 
-/// A key: 1 to 65,535 bytes. Contracts see the list of its bytes.
-#[derive(Debug, Drop)]
+/// A key: 1 to 65,535 bytes. Contracts see the list of its bytes. Up to 30 of them lie in the key
+/// itself, and more on the heap.
+#[derive(Drop)]
 pub struct Key {
-    bytes: Vec<u8>,
+    bytes: KeyBytes,
 }
+
+// A `Vec` takes 24 bytes, so these are as few as its variant allows.
+const _: () = prove!(size_of::<Key>() == 32);
 
 /// The bytes were too few or too many for a key; `len` is how many there were.
 #[derive(Clone, Copy, Debug, PartialEq, Eq)]
@@ -25,12 +32,13 @@ pub struct KeyLength {
 impl Model for Key {
     ghost use Rattle.std.specs.Prelude.{List, ℕ};
     ghost use Rattle.bk_base.specs.Bounds.{AreBytes, IsKey};
+    ghost use Rattle.bk_base.specs.KeyBytes.{bytes_in};
 
     ghost Value = { List ℕ };
 
-    ghost view = { λ key. key.bytes.items };
+    ghost view = { λ key. bytes_in key.bytes };
 
-    ghost invariant = { λ key. IsKey key.bytes.items × AreBytes key.bytes.items };
+    ghost invariant = { λ key. IsKey (bytes_in key.bytes) × AreBytes (bytes_in key.bytes) };
 }
 
 impl Key {
@@ -44,6 +52,17 @@ impl Key {
         if len == 0 || len > LONGEST_KEY as usize {
             return Err(KeyLength { len });
         }
+        Ok(Key {
+            bytes: KeyBytes::of(bytes),
+        })
+    }
+
+    /// A key with a copy of these bytes; only memory can refuse it.
+    pub fn of(alloc: Global, bytes: &[u8]) -> Result<Key, Memory>
+        requires { IsKey bytes.now }
+        ensures { IfOk result (λ key. key ≡ bytes.now) }
+    {
+        let bytes = KeyBytes::copied(alloc, bytes)?;
         Ok(Key { bytes })
     }
 
@@ -60,10 +79,15 @@ impl Key {
     pub fn copy(&self) -> Result<Key, Memory>
         ensures { IfOk result (λ key. key ≡ self.now) }
     {
-        match self.bytes.clone() {
-            Ok(bytes) => Ok(Key { bytes }),
-            Err(_) => Err(Memory),
-        }
+        Ok(Key {
+            bytes: self.bytes.copy()?,
+        })
+    }
+}
+
+impl fmt::Debug for Key {
+    fn fmt<W: fmt::Write>(&self, f: &mut fmt::Formatter<W>) -> fmt::Result {
+        f.debug_struct("Key").field("bytes", &self.bytes()).finish()
     }
 }
 

@@ -5,7 +5,9 @@
 mod calls;
 mod errors;
 mod histories;
+mod inline_bytes;
 mod jobs;
+mod key_bytes;
 mod keys;
 pub mod limits;
 mod names;

@@ -56,6 +56,22 @@ fn keys_are_found_by_their_bytes(rt: HostRuntime) -> Result<(), Fail> {
 }
 
 #[test]
+fn keys_keep_their_bytes_in_place_and_on_the_heap(rt: HostRuntime) -> Result<(), Fail> {
+    let text = b"the bytes of one key after another";
+    for len in 1..=text.len() {
+        let (front, other) = (&text[..len], &text[text.len() - len..]);
+        let key = Key::new(front.to_vec(rt.alloc())?)?;
+        assert_eq!(rt; key.bytes(), front);
+        assert_eq!(rt; key.copy()?.bytes(), front);
+        assert_eq!(rt; key.copy()?, key);
+        assert_eq!(rt; Key::of(rt.alloc(), front)?, key);
+        let same = Key::new(other.to_vec(rt.alloc())?)? == key;
+        assert_eq!(rt; same, front == other, "{len} bytes");
+    }
+    Ok(())
+}
+
+#[test]
 fn lengths_are_bounded(rt: HostRuntime) -> Result<(), Fail> {
     for (len, taken) in [(0, false), (1, true), (65_535, true), (65_536, false)] {
         let made = Key::new(vec![in rt.alloc(); 7u8; len]?);

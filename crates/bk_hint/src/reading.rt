@@ -1,7 +1,6 @@
 //! The rows of a hint, in their order.
 ghost use Rattle.std.specs.Prelude.{◌≡◌, ℕ, List, IfOk, OnErr};
 ghost use Rattle.std.specs.Option.{option_map};
-ghost use Rattle.bk_base.specs.Bounds.{IsKey};
 ghost use Rattle.bk_laws.specs.Hint.{Hinted, RowsLeft};
 ghost use Rattle.bk_hint.specs.Passing.{Gives};
 
@@ -50,7 +49,7 @@ impl HintIn {
         let Some((version, key)) = reader.next_borrowed(bytes) else {
             return Ok(None);
         };
-        let key = copy_of(alloc, key)?;
+        let key = Key::of(alloc, key)?;
         *self = reader;
         Ok(Some(HintRow { version, key }))
     }
@@ -74,12 +73,4 @@ impl HintIn {
         self.at += HINT_HEADER + key.len();
         Some((version, key))
     }
-}
-
-// A key of these bytes.
-fn copy_of(alloc: Global, bytes: &[u8]) -> Result<Key, Memory>
-    requires { IsKey bytes.now }
-    ensures { IfOk result (λ key. key ≡ bytes.now) }
-{
-    Ok(Key::new(bytes.to_vec(alloc)?).unwrap())
 }

@@ -151,7 +151,7 @@ fn key_of(alloc: Global, header: &Header, bytes: &[u8]) -> Result<Key, Memory>
     ensures { IfOk result (λ key. key ≡ take header.now.ksz bytes.now) }
 {
     let key = &bytes[..usize::from(header.ksz)];
-    Ok(Key::new(key.to_vec(alloc)?).unwrap())
+    Key::of(alloc, key)
 }
 
 fn body_of(alloc: Global, vsz: u32, value: &[u8]) -> Result<Body, Memory>

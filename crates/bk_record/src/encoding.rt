@@ -1,6 +1,7 @@
 //! From a write to its record.
-ghost use Rattle.std.specs.Prelude.{◌≡◌, ◌++◌, OnOk, OnErr};
-ghost use Rattle.bk_laws.specs.Record.{IsSeq, IsWritable, record_of, value_of};
+ghost use Rattle.std.specs.Prelude.{◌≡◌, ◌++◌, ◌+◌, ◌≤◌, IsOk, OnOk, OnErr};
+ghost use Rattle.bk_laws.specs.Record.{IsSeq, IsWritable, record_of, size_of, value_of};
+ghost use Rattle.std.specs.Vec.{vec_capacity, vec_len};
 
 use crate::header::fields;
 use bk_base::limits::RECORD_HEADER;
@@ -12,6 +13,9 @@ pub fn encode(write: &Write, out: &mut Vec<u8>) -> Result<(), Memory>
     requires { IsSeq write.now.seq.0 }
     ensures ok { OnOk result (out.new.items ≡ out.old.items ++ record_of write.now) }
     ensures err { OnErr result (out.new.items ≡ out.old.items) }
+    // Room that is there is enough, so no record is refused for want of it.
+    ensures enough { vec_len out.old + size_of write.now ≤ vec_capacity out.old → IsOk result }
+    ensures capacity { vec_capacity out.old ≤ vec_capacity out.new }
     // So what was written can be read again.
     ensures writable { IsWritable write.now }
 {

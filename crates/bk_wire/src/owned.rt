@@ -1,17 +1,9 @@
-//! Keys and values with bytes of their own.
-ghost use Rattle.bk_base.specs.Bounds.{IsKey, IsValue};
+//! Values with bytes of their own.
+ghost use Rattle.bk_base.specs.Bounds.{IsValue};
 ghost use Rattle.std.specs.Prelude.{◌≡◌, IfOk};
 
-use bk_base::{Key, Memory, Value};
+use bk_base::{Memory, Value};
 use std::alloc::Global;
-
-pub fn owned_key(alloc: Global, bytes: &[u8]) -> Result<Key, Memory>
-    requires { IsKey bytes.now }
-    ensures { IfOk result (λ key. key ≡ bytes.now) }
-{
-    let bytes = bytes.to_vec(alloc).map_err(|_| Memory)?;
-    Ok(Key::new(bytes).unwrap())
-}
 
 pub fn owned_value(alloc: Global, bytes: &[u8]) -> Result<Value, Memory>
     requires { IsValue bytes.now }

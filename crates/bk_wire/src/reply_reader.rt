@@ -9,11 +9,11 @@ ghost use Rattle.bk_wire.specs.declared.words.Line.TheVariants.{Merged, Stat, Da
 
 use crate::fields::{paired, sized};
 use crate::numbers::{hexadecimal, long, short, wide};
-use crate::owned::{owned_key, owned_value};
+use crate::owned::owned_value;
 use crate::stops::Stop;
 use crate::words::{Line, WORDS, Word, first_of};
 use bk_base::limits::{LONGEST_KEY, LONGEST_VALUE};
-use bk_base::{FileId, Memory, Reply, Seq};
+use bk_base::{FileId, Key, Memory, Reply, Seq};
 use std::alloc::Global;
 
 /// A reply that was read, and how many bytes it has.
@@ -53,11 +53,11 @@ impl FoundReply<'_> {
         match self {
             FoundReply::Value(value) => Ok(Reply::Value(owned_value(alloc, value)?)),
             FoundReply::Pair(key, value) => {
-                let key = owned_key(alloc, key)?;
+                let key = Key::of(alloc, key)?;
                 let value = owned_value(alloc, value)?;
                 Ok(Reply::Pair { key, value })
             }
-            FoundReply::Key(key) => Ok(Reply::Key(owned_key(alloc, key)?)),
+            FoundReply::Key(key) => Ok(Reply::Key(Key::of(alloc, key)?)),
             FoundReply::Line(reply) => Ok(reply),
         }
     }

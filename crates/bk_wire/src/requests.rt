@@ -5,9 +5,9 @@ ghost use Rattle.bk_laws.specs.Wire.{Fits};
 ghost use Rattle.std.specs.Prelude.{◌≡◌, IfOk};
 
 use crate::fields::{keyed, literal, paired};
-use crate::owned::{owned_key, owned_value};
+use crate::owned::owned_value;
 use crate::stops::Stop;
-use bk_base::{Memory, Request};
+use bk_base::{Key, Memory, Request};
 use std::alloc::Global;
 
 /// A request that was found, its key and its value still where they were found.
@@ -30,12 +30,12 @@ impl Found<'_> {
         ensures { IfOk result (λ request. request ≡ request_of self.entry) }
     {
         match self {
-            Found::Get(key) => Ok(Request::Get(owned_key(alloc, key)?)),
+            Found::Get(key) => Ok(Request::Get(Key::of(alloc, key)?)),
             Found::Put(key, value) => {
-                let key = owned_key(alloc, key)?;
+                let key = Key::of(alloc, key)?;
                 Ok(Request::Put(key, owned_value(alloc, value)?))
             }
-            Found::Delete(key) => Ok(Request::Delete(owned_key(alloc, key)?)),
+            Found::Delete(key) => Ok(Request::Delete(Key::of(alloc, key)?)),
             Found::Fold => Ok(Request::Fold),
             Found::Keys => Ok(Request::Keys),
             Found::Sync => Ok(Request::Sync),

@@ -5,8 +5,8 @@ use Rattle.bk_hint.proofs.reading.HintIn.next.Goals as goal
 pub returns-in_default-clause-ok : goal.returns-in_default-clause-ok
 returns-in_default-clause-ok c = λ covered rows left. ((c.in_default.ensures covered rows left).0, refl)
 
-pub copy_of-requires : goal.copy_of-requires
-copy_of-requires c =
+pub of-requires : goal.of-requires
+of-requires c =
     key_given c.args.bytes.now c.args.self.now c.next_borrowed.new.self (c.in-Some.version, c.in-Some.key.now)
     c.requires.0 c.requires.1 c.requires.2 (c.in-Some.ensures c.requires.0 c.requires.1 c.requires.2)
 
