@@ -1,5 +1,5 @@
 -- What a store has, through its events.
-use Rattle.std.proofs.Common.{◌≡◌, ℕ, ◌<◌, Bool, List, [], ◌∷◌, ◌++◌, Option, Some, None, refl, sym, ap, subst, ◌∙◌, arith}
+use Rattle.std.proofs.Common.{◌≡◌, ℕ, ◌<◌, ◌≤◌, Bool, List, [], ◌∷◌, ◌++◌, Option, Some, None, refl, sym, ap, subst, ◌∙◌, arith}
 use Rattle.std.specs.Prelude.{IsTrue}
 use Rattle.std.specs.Option.{is_some}
 use Rattle.bk_base.specs.declared.rows.Row.{Row}
@@ -28,7 +28,7 @@ use Rattle.bk_store.specs.Standing.{Content, ContentStands, FilesStand}
 use Rattle.bk_store.specs.Versions.{KeysStand, VersionStands}
 use Rattle.bk_store.proofs.FoldsKept.{folds_put, folds_stay}
 use Rattle.bk_store.proofs.KeptVersions.{extends_refl, keys_put, keys_stay}
-use Rattle.bk_store.proofs.RowCounts.{no_counts, none_placed, rows_have_room}
+use Rattle.bk_store.proofs.RowCounts.{from_one, no_counts, none_placed, rows_have_room}
 use Rattle.bk_store.proofs.Stages.{known_empty}
 
 -- ---- the files alone
@@ -47,7 +47,7 @@ files_counted tells old new c tell h alone =
       holds = rw (told, active, last) h.holds;
       whole = λ not_torn. h.whole (sym (ap torn_of active) ∙ not_torn);
       few = h.few;
-      covered = λ id none. rw told (h.covered id (sym (alone.there id) ∙ none));
+      covered = λ id first none. rw told (h.covered id first (sym (alone.there id) ∙ none));
     }
 
 pub known_counted : (tells : Bool) (old new : Seen) → CountsAlone tells old new → known_bytes new ≡ known_bytes old
@@ -65,7 +65,8 @@ files_same old new c h consistent totals synced image fronts catalog = record {
   holds = rw catalog (holds_same new.told h.holds image fronts);
   whole = λ not_torn. h.whole (sym (ap (λ (k : Known). torn_of k.active) catalog) ∙ not_torn);
   few = h.few;
-  covered = λ id none. rw image (h.covered id (sym (ap (λ (k : Known). is_some (row_of id k.rows)) catalog) ∙ none));
+  covered = λ id first none.
+      rw image (h.covered id first (sym (ap (λ (k : Known). is_some (row_of id k.rows)) catalog) ∙ none));
 }
 
 -- a call that changed rooms alone
@@ -83,21 +84,22 @@ files_still old new c h told catalog consistent =
 
 -- no put stands in a file without a row
 pub no_row_no_counts : (files : Seen) (c : Content) (entries : List Entry) → FilesStand files c
-    → KeysStand (known_bytes files) entries c.log → (id : ℕ) → row_of id files.catalog.rows ≡ None
+    → KeysStand (known_bytes files) entries c.log → (id : ℕ) → 1 ≤ id → row_of id files.catalog.rows ≡ None
     → (live_of id entries ≡ 0) × (refs_of id entries ≡ 0)
-no_row_no_counts files c entries h keys id none =
+no_row_no_counts files c entries h keys id first none =
     no_counts id entries
     (none_placed (known_bytes files) entries c.log id keys
     (known_empty (active_file files.catalog.active) files.told.image (main id)
-    (h.covered id (ap (λ (o : Option Row). is_some o) none))))
+    (h.covered id first (ap (λ (o : Option Row). is_some o) none))))
 
 pub rows_stand_still : (rows now : List Row) (entries : List Entry) → RowsStay rows now → RowsStand rows entries
-    → ((id : ℕ) → row_of id rows ≡ None → (live_of id entries ≡ 0) × (refs_of id entries ≡ 0)) → RowsStand now entries
-rows_stand_still rows now entries stay stand none id r here =
+    → ((id : ℕ) → 1 ≤ id → row_of id rows ≡ None → (live_of id entries ≡ 0) × (refs_of id entries ≡ 0))
+    → ((id : ℕ) (r : Row) → row_of id now ≡ Some r → 1 ≤ id) → RowsStand now entries
+rows_stand_still rows now entries stay stand none first id r here =
     go (row_of id rows) refl (subst (RowGoes 0 (row_of id rows)) here (stay id)) where
       go : (o : Option Row) → row_of id rows ≡ o → RowGoesOn 0 (row_of id rows) r → RowStands entries id r
       go None e g =
-          let zero_of = none id e in
+          let zero_of = none id (first id r here) e in
           let live : r.live ≡ 0 = g.live ∙ ap live_in e in
           let refs : r.refs ≡ 0 = g.refs ∙ ap refs_of_row e in
           record {
@@ -149,7 +151,8 @@ content_put tells ttl files mid new keys now c w p tell h newer appended entries
           (folds_put ttl (known_bytes files) (known_bytes mid) keys now c.log c.folds w appended.known folds newer h.open_folds);
       rows = counts
           (rows_have_room v (size_of w) files.catalog.rows mid.catalog.rows keys.entries refl (omega arith) appended.rows h.rows
-          (no_row_no_counts files c keys.entries h.disk h.newest));
+          (no_row_no_counts files c keys.entries h.disk h.newest)
+          (λ id r here. from_one mid.catalog.active mid.catalog.last id mid.catalog.rows mid.told r appended.disk.consistent.made here));
     }
 
 -- the files hold the same log and know no less, and the keydir has what it had
@@ -165,7 +168,8 @@ content_stays ttl files new keys now c kept left h disk known rows slots entries
       (keeps_same keys now slots entries) (omega arith) (λ s given_out. refl) h.open_folds;
   rows = subst (RowsStand new.catalog.rows) (sym entries)
       (rows_stand_still files.catalog.rows new.catalog.rows keys.entries rows h.rows
-      (no_row_no_counts files c keys.entries h.disk h.newest));
+      (no_row_no_counts files c keys.entries h.disk h.newest)
+      (λ id r here. from_one new.catalog.active new.catalog.last id new.catalog.rows new.told r disk.consistent.made here));
 }
 
 -- nothing was appended

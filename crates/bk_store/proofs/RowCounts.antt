@@ -14,7 +14,7 @@ use Rattle.bk_laws.proofs.RecordBytes.{length-record_of}
 use Rattle.bk_image.specs.Readings.{In, Reading, bytes_in, main}
 use Rattle.bk_files.specs.declared.catalog.Active.{Active}
 use Rattle.bk_files.specs.Catalog.{active_edited, edited, edited_at, new_row, row_of, sealed, with_len}
-use Rattle.bk_files.specs.Rows.{AreAtRest, StandsAmong}
+use Rattle.bk_files.specs.Rows.{AreAtRest, AreRows, StandsAmong}
 use Rattle.bk_files.proofs.Rows.{edited_at-place}
 use Rattle.bk_keydir.specs.declared.slots.Slot.{Slot}
 use Rattle.bk_keydir.specs.Counts.{PutCounts, bytes_if, is_put_in, live_of, one_if, one_in, refs_in, refs_of}
@@ -154,6 +154,30 @@ below low high n (q ∷ qs) t r rest is = go (q.id.0 == n) refl is (below (q.id.
   go true p is others = omega (arith, eqb-true q.id.0 n p, rest.1)
   go false p is others = others is
 
+-- and from the least one on
+above : (low high n : ℕ) (rows : List Row) (t : Told) (r : Row) → AreAtRest low high rows t → row_of n rows ≡ Some r → low ≤ n
+above low high n [] t r rest is = absurd (cc is)
+above low high n (q ∷ qs) t r rest is = go (q.id.0 == n) refl is (above (q.id.0 + 1) high n qs t r rest.3) where
+  go : (b : Bool) → (q.id.0 == n) ≡ b → cond b (Some q) (row_of n qs) ≡ Some r
+      → (row_of n qs ≡ Some r → q.id.0 + 1 ≤ n) → low ≤ n
+  go true p is others = omega (arith, eqb-true q.id.0 n p, rest.0)
+  go false p is others = omega (arith, others is, rest.0)
+
+-- a row's file has a number from 1 on
+pub from_one : (o : Option Active) (last n : ℕ) (rows : List Row) (t : Told) (r : Row) → AreRows o last rows t
+    → row_of n rows ≡ Some r → 1 ≤ n
+unfolding or_row
+from_one None last n rows t r are is = above 1 (last + 1) n rows t r are is
+from_one (Some a) last n rows t r s is =
+    go (row_of n s.before) refl (sym (ap (row_of n) s.are ∙ row_of-append n s.before (s.row ∷ s.behind)) ∙ is) where
+      at : (b : Bool) → (s.row.id.0 == n) ≡ b → cond b (Some s.row) (row_of n s.behind) ≡ Some r → 1 ≤ n
+      at true p here = omega (arith, eqb-true s.row.id.0 n p, s.now.id, s.first)
+      at false p here = omega (arith, above (a.id.0 + 1) (last + 1) n s.behind t r s.later here)
+
+      go : (o : Option Row) → row_of n s.before ≡ o → or_row o (row_of n (s.row ∷ s.behind)) ≡ Some r → 1 ≤ n
+      go None e here = at (s.row.id.0 == n) refl here
+      go (Some q) e here = above 1 a.id.0 n s.before t q s.earlier e
+
 -- the active file has more records
 pub rows_grown : (a : Active) (last size : ℕ) (rows : List Row) (t : Told) → StandsAmong a last rows t
     → RowsGrow a.id.0 size rows (edited_at a.place (with_len (a.len + size)) rows)
@@ -238,14 +262,14 @@ one_in_file v id more some = grind (arith, nat_tests, some)
 
 pub rows_have_room : (v : Version) (size : ℕ) (rows mid : List Row) (entries : List Entry) → v.size ≡ size → 1 ≤ size
     → RowsGrow v.file.0 size rows mid → RowsStand rows entries
-    → ((id : ℕ) → row_of id rows ≡ None → (live_of id entries ≡ 0) × (refs_of id entries ≡ 0))
-    → RowsHaveRoom v mid entries
-rows_have_room v size rows mid entries is some grows stand none id r here =
+    → ((id : ℕ) → 1 ≤ id → row_of id rows ≡ None → (live_of id entries ≡ 0) × (refs_of id entries ≡ 0))
+    → ((id : ℕ) (r : Row) → row_of id mid ≡ Some r → 1 ≤ id) → RowsHaveRoom v mid entries
+rows_have_room v size rows mid entries is some grows stand none first id r here =
     go (row_of id rows) refl (subst (RowGoes (cond (id == v.file.0) size 0) (row_of id rows)) here (grows id)) where
       go : (o : Option Row) → row_of id rows ≡ o → RowGoesOn (cond (id == v.file.0) size 0) (row_of id rows) r
           → RowHasRoom v entries id r
       go None e g =
-          let zero_of = none id e in
+          let zero_of = none id (first id r here) e in
           let live : r.live ≡ 0 = g.live ∙ ap live_in e in
           let refs : r.refs ≡ 0 = g.refs ∙ ap refs_of_row e in
           record {

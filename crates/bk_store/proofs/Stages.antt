@@ -206,12 +206,12 @@ pub covered_after : (old now : Seen) (c : Content) → FilesStand old c → IsCo
     → ((id : ℕ) → is_some (row_of id now.catalog.rows) ≡ false → row_of id old.catalog.rows ≡ None)
     → ((id : ℕ) → is_some (row_of id now.catalog.rows) ≡ false
     → bytes_in (known_bytes now) (main id) ≡ bytes_in (known_bytes old) (main id))
-    → (id : ℕ) → is_some (row_of id now.catalog.rows) ≡ false → bytes_of (main id) now.told.image ≡ []
-covered_after old now c h consistent gone same id none =
+    → (id : ℕ) → 1 ≤ id → is_some (row_of id now.catalog.rows) ≡ false → bytes_of (main id) now.told.image ≡ []
+covered_after old now c h consistent gone same id first none =
     sym (image_known now.catalog.active now.catalog.rows now.catalog.last id now.told consistent.made none)
     ∙ same id none
     ∙ known_empty (active_file old.catalog.active) old.told.image (main id)
-    (h.covered id (ap (λ (o : Option Row). is_some o) (gone id none)))
+    (h.covered id first (ap (λ (o : Option Row). is_some o) (gone id none)))
 
 -- ---- the ends of an event
 

@@ -35,8 +35,8 @@ pub record FilesStand (s : Seen) (c : Content) : Type 0 where
   pub holds : Holds (Young IsIdle) s.told (active_file s.catalog.active) s.catalog.last c.log c.kept c.tried
   pub whole : is_torn s ≡ false → c.tried ≡ []
   pub few : length c.tried ≤ 1
-  -- each data file that has bytes is a row's
-  pub covered : (id : ℕ) → is_some (row_of id s.catalog.rows) ≡ false → bytes_of (main id) s.told.image ≡ []
+  -- each data file that has bytes is a row's; the numbers of files begin with 1
+  pub covered : (id : ℕ) → 1 ≤ id → is_some (row_of id s.catalog.rows) ≡ false → bytes_of (main id) s.told.image ≡ []
 
 pub record ContentStands (ttl : ℕ) (files : Seen) (keys : KeydirShown) (c : Content) : Type 0 where
   pub disk : FilesStand files c

@@ -39,7 +39,8 @@ pub record IsLoadOf (t : Told) (l : Loaded) (log : List Write) : Type 0 where
   pub keys : KeysStand (at t.image) l.keydir.entries log
   pub totals : AreFromScratch l.rows.items t
   pub counts : RowsStand l.rows.items l.keydir.entries
-  pub covered : (id : ℕ) → is_some (row_of id l.rows.items) ≡ false → bytes_of (main id) t.image ≡ []
+  -- each data file that has bytes is a row's; the numbers of files begin with 1
+  pub covered : (id : ℕ) → 1 ≤ id → is_some (row_of id l.rows.items) ≡ false → bytes_of (main id) t.image ≡ []
 
 -- the opening of a store's history: the log that was found, and the store as it started
 abbrev pub opening_of : List Write → Shown → Opening
