@@ -26,7 +26,7 @@ use Rattle.bk_store.specs.Rows.{RowStands, RowsStand}
 use Rattle.bk_store.specs.Shown.{IsSteady, known_bytes}
 use Rattle.bk_store.specs.Standing.{Content, ContentStands}
 use Rattle.bk_store.specs.Loans.{is_put}
-use Rattle.bk_store.specs.Sweeps.{AreClean, AreFewer, Cleans, GoesOnAt, IsClean, IsPruned, IsSwept, IsVisited, StaysBut, has_put, last_count, swept_to, versions_in}
+use Rattle.bk_store.specs.Sweeps.{AreClean, AreFewer, Cleans, GoesOnAt, IsClean, IsPruned, IsSwept, IsVisited, SeesSame, StaysBut, has_put, last_count, put_if, swept_to, versions_in}
 use Rattle.bk_store.specs.Versions.{KeyStands, KeysStand}
 use Rattle.bk_store.proofs.Contents.{files_counted, known_counted}
 use Rattle.bk_store.proofs.Entries.{dropped_before, dropped_key, dropped_other, edited_before, in_dropped, in_pruned, length_dropped, length_edited, newest_pruned, shorter_pruned, sum_dropped, sum_pruned, versions_get}
@@ -138,10 +138,35 @@ taken_row v rows now r put here is id =
 
 -- ---- what a sweep leaves
 
+keeps_refl : (keys : KeydirShown) → KeepsFolds keys keys
+keeps_refl keys = record { slots = refl; same = λ s is_open. record { sees = λ key. refl; still = λ ttl. refl; listed = λ ttl. refl } }
+
+keeps_trans : (a b c : KeydirShown) → KeepsFolds a b → KeepsFolds b c → KeepsFolds a c
+keeps_trans a b c first second = record {
+  slots = second.slots ∙ first.slots;
+  same = λ s is_open.
+      let before = first.same s is_open in
+      let later = second.same s (subst (λ (l : List (Option Slot)). IsOpen l s) (sym first.slots) is_open) in
+      record {
+        sees = λ key. later.sees key ∙ before.sees key;
+        still = λ ttl. later.still ttl ∙ before.still ttl;
+        listed = λ ttl. later.listed ttl ∙ before.listed ttl;
+      };
+}
+
+sees_refl : (keys : KeydirShown) → SeesSame keys keys
+sees_refl keys = record { puts = λ key. refl; folds = keeps_refl keys }
+
+sees_trans : (a b c : KeydirShown) → SeesSame a b → SeesSame b c → SeesSame a c
+sees_trans a b c first second = record {
+  puts = λ key. second.puts key ∙ first.puts key;
+  folds = keeps_trans a b c first.folds second.folds;
+}
+
 pub cleans_refl : (tells : Bool) (files : Seen) (keys : KeydirShown) → Cleans tells files keys files keys
 cleans_refl tells files keys = record {
   alone = counts_refl tells files;
-  slots = refl;
+  sees = sees_refl keys;
   versions = λ e v there is_in. (e, there, refl, is_in);
   keeps = λ tell ttl c h. h;
 }
@@ -150,7 +175,7 @@ pub cleans_trans : (tells : Bool) (a b c : Seen) (x y z : KeydirShown) → Clean
     → Cleans tells a x c z
 cleans_trans tells a b c x y z first second = record {
   alone = counts_trans tells a b c first.alone second.alone;
-  slots = second.slots ∙ first.slots;
+  sees = sees_trans x y z first.sees second.sees;
   versions = λ e v there is_in.
       let (f, at, key, here) = second.versions e v there is_in in
       let (d, stands, is, in_it) = first.versions f v at here in
@@ -224,7 +249,11 @@ cleans_prune tells files new keys now n v alone taken is folds counts =
     (sym (ap (λ (es : List Entry). newest_of (versions_of key es)) entries ∙ newest_pruned n keys.slots keys.entries key)) h in
     record {
       alone = alone;
-      slots = folds.slots;
+      sees = record {
+        puts = λ key. ap (λ (es : List Entry). put_if (newest_of (versions_of key es))) entries
+            ∙ ap put_if (newest_pruned n keys.slots keys.entries key);
+        folds = folds;
+      };
       versions = versions;
       keeps = λ tell ttl c h.
           content_cleaned tells ttl files new keys now c tell alone folds versions (λ r key. newest r c.log key)
@@ -273,6 +302,23 @@ newest_dropped r log n es key apart left low lone h =
           (sym (dropped_other n es key apart left low p)) h
     ]
 
+lone_no_put : (vs : List Version) → is_lone_gone vs ≡ true → put_if (newest_of vs) ≡ None
+lone_no_put [] lone = absurd (true≢false (sym lone))
+lone_no_put (v ∷ []) lone = rw lone refl
+lone_no_put (v ∷ x ∷ vs) lone = absurd (true≢false (sym lone))
+
+puts_dropped : (n : ℕ) (es : List Entry) (key : List ℕ) → IsDistinct bytes_eq (keys_of es)
+    → IsDistinct bytes_eq (keys_of (dropped_at n es)) → n < length es → is_lone_gone (versions_at n es) ≡ true
+    → put_if (newest_of (versions_of key (dropped_at n es))) ≡ put_if (newest_of (versions_of key es))
+puts_dropped n es key apart left low lone =
+    elim (cases_Bool (bytes_eq key (get_or es n ([], [])).0)) [
+      | inl p ↦
+          let at = dropped_key n es key apart low p in
+          ap (λ (vs : List Version). put_if (newest_of vs)) at.1
+          ∙ sym (ap (λ (vs : List Version). put_if (newest_of vs)) at.0 ∙ lone_no_put (versions_at n es) lone)
+      | inr p ↦ ap (λ (vs : List Version). put_if (newest_of vs)) (dropped_other n es key apart left low p)
+    ]
+
 rows_dropped : (es fs : List Entry) (rows : List Row) → SameCounts es fs → RowsStand rows es → RowsStand rows fs
 rows_dropped es fs rows same stand id r here =
     let h = stand id r here in
@@ -297,7 +343,7 @@ pub cleans_drop : (tells : Bool) (files : Seen) (keys now : KeydirShown) (n : �
     → Cleans tells files keys files now
 cleans_drop tells files keys now n false low drops entries slots counts apart left = record {
   alone = counts_refl tells files;
-  slots = slots;
+  sees = record { puts = λ key. ap (λ (es : List Entry). put_if (newest_of (versions_of key es))) entries; folds = still };
   versions = λ e v there is_in. (e, subst (In e) entries there, refl, is_in);
   keeps = λ tell ttl c h.
       content_cleaned tells ttl files files keys now c tell (counts_refl tells files) still
@@ -317,7 +363,11 @@ cleans_drop tells files keys now n true low drops entries slots counts apart lef
     let apart_left = subst (λ (es : List Entry). IsDistinct bytes_eq (keys_of es)) entries left in
     record {
       alone = counts_refl tells files;
-      slots = slots;
+      sees = record {
+        puts = λ key. ap (λ (es : List Entry). put_if (newest_of (versions_of key es))) entries
+            ∙ puts_dropped n keys.entries key apart apart_left low lone.1;
+        folds = no_fold_sees keys now slots lone.0;
+      };
       versions = versions;
       keeps = λ tell ttl c h.
           content_cleaned tells ttl files files keys now c tell (counts_refl tells files) (no_fold_sees keys now slots lone.0) versions
@@ -333,8 +383,8 @@ pub steady_cleaned : (tells : Bool) (files new : Seen) (keys now : KeydirShown) 
 steady_cleaned tells files new keys now seq h cleans = record {
   consistent = λ tell. cleans.alone.consistent tell (h.consistent tell);
   last = h.last;
-  slots = ap length cleans.slots ∙ h.slots;
-  epochs = λ s is_open. h.epochs s (subst (λ (l : List (Option Slot)). IsOpen l s) cleans.slots is_open);
+  slots = ap length cleans.sees.folds.slots ∙ h.slots;
+  epochs = λ s is_open. h.epochs s (subst (λ (l : List (Option Slot)). IsOpen l s) cleans.sees.folds.slots is_open);
   versions = λ e v there is_in.
       let (f, at, key, here) = cleans.versions e v there is_in in
       let fit = h.versions f v at here in
@@ -495,7 +545,7 @@ sweep_passes tells from visits files keys mid between new now position count dro
         | inl q ↦
             subst (λ (k : ℕ). IsClean now.slots (versions_at k now.entries)) (sym (eqb-true p position q)) (v.clean refl)
         | inr q ↦
-            clean_still from position between now cleans.slots v.others.before so.clean p low (grind (arith, nat_tests, q, high))
+            clean_still from position between now cleans.sees.folds.slots v.others.before so.clean p low (grind (arith, nat_tests, q, high))
       ];
 } where
   fewer : AreFewer total (versions_in now.entries + (dropped + 0)) (versions_in keys.entries)
@@ -516,7 +566,7 @@ sweep_drops tells from visits files keys mid between new now position count drop
   place = omega (arith, so.place);
   few = omega (arith, so.few);
   forward = so.forward;
-  clean = clean_still from position between now cleans.slots v.others.before so.clean;
+  clean = clean_still from position between now cleans.sees.folds.slots v.others.before so.clean;
 }
 
 pub sweep_ends : (tells : Bool) (from n : ℕ) (files : Seen) (keys : KeydirShown) (new : Seen) (now : KeydirShown)
@@ -530,7 +580,7 @@ sweep_ends tells from n files keys new now position count dropped visits next ar
       versions = so.versions;
       next = subst (GoesOnAt next (length now.entries)) at goes;
       clean = subst (λ (k : ℕ). AreClean from k now) at so.clean;
-      slots = so.cleans.slots;
+      sees = so.cleans.sees;
     }
 
 -- the next visit is within

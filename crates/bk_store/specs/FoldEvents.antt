@@ -61,8 +61,9 @@ ListsNext who slot v u found = (who_of (slot_at v.keys.slots slot) ≡ Some who)
 abbrev pub IsFoldError : ℕ → ℕ → Shown → Shown → FoldError → Type 0
 IsFoldError who slot v u (NoFold n) = (n ≡ slot) × (who_of (slot_at v.keys.slots slot) ≢ Some who) × (u ≡ v)
 IsFoldError who slot v u Disk = (who_of (slot_at v.keys.slots slot) ≡ Some who)
-    × (u ≡ record v { files = u.files }) × Rose v.files.faults u.files.faults
-IsFoldError who slot v u Memory = (who_of (slot_at v.keys.slots slot) ≡ Some who) × (u ≡ record v { files = u.files })
+    × (u ≡ record v { files = u.files }) × (u.files.catalog ≡ v.files.catalog) × Rose v.files.faults u.files.faults
+IsFoldError who slot v u Memory = (who_of (slot_at v.keys.slots slot) ≡ Some who)
+    × (u ≡ record v { files = u.files }) × (u.files.catalog ≡ v.files.catalog)
 
 -- what is lent is the record of the key's winner in the log that the fold lists
 abbrev pub LendsPairOf : {V : Type 0} → Option Slot → List Write → Option (Row2 V) → Type 0

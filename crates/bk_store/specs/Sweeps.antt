@@ -6,11 +6,12 @@ use Rattle.bk_files.specs.Files.{Seen, rows_of}
 use Rattle.bk_image.specs.Readings.{In}
 use Rattle.bk_keydir.specs.declared.keydir.Swept.{Swept}
 use Rattle.bk_keydir.specs.declared.slots.Slot.{Slot}
-use Rattle.bk_keydir.specs.Keydir.{Entry, can_drop, newest_of, pruned, versions_at}
+use Rattle.bk_keydir.specs.Folds.{KeepsFolds}
+use Rattle.bk_keydir.specs.Keydir.{Entry, can_drop, newest_of, pruned, versions_at, versions_of}
 use Rattle.bk_keydir.specs.Keydir.{Shown as KeydirShown}
 use Rattle.bk_store.specs.declared.sweeps.Stat.{Stat}
 use Rattle.bk_store.specs.Appends.{CountsAlone}
-use Rattle.bk_store.specs.Loans.{is_put}
+use Rattle.bk_store.specs.Loans.{is_put, live_if}
 use Rattle.bk_store.specs.Shown.{Shown}
 use Rattle.bk_store.specs.Standing.{Content, ContentStands}
 
@@ -43,14 +44,23 @@ AreClean from to keys = (p : ℕ) → from ≤ p → p < to → IsClean keys.slo
 abbrev pub swept_to : ℕ → ℕ → ℕ → ℕ → ℕ
 swept_to from n keys dropped = from + min n (keys - from) - dropped
 
+-- the version, where it is a put
+abbrev pub put_if : Option Version → Option Version
+put_if v = live_if (is_put v) v
+
+-- Each key has the value that it had, and each open fold sees and lists what it did.
+pub record SeesSame (old new : KeydirShown) : Type 0 where
+  pub puts : (key : List ℕ) → put_if (newest_of (versions_of key new.entries)) ≡ put_if (newest_of (versions_of key old.entries))
+  pub folds : KeepsFolds old new
+
 -- The keys were visited, up to the end: `dropped` of them have gone, and `pruned` versions besides.
 -- Nothing is left at those that stay that nobody sees.
 pub record IsSwept (from n : ℕ) (s : Swept) (old new : KeydirShown) : Type 0 where
+  pub sees : SeesSame old new
   pub keys : length new.entries + s.dropped ≡ length old.entries
   pub versions : AreFewer s.pruned (versions_in new.entries + s.dropped) (versions_in old.entries)
   pub next : GoesOnAt s.next (length new.entries) (swept_to from n (length old.entries) s.dropped)
   pub clean : AreClean from (swept_to from n (length old.entries) s.dropped) new
-  pub slots : new.slots ≡ old.slots
 
 abbrev pub has_put : Entry → ℕ
 has_put e = cond (is_put (newest_of e.1)) 1 0
@@ -68,7 +78,7 @@ pub record IsStat (s : Stat) (v : Shown) : Type 0 where
 pub record Cleans (tells : Bool) (files : Seen) (keys : KeydirShown) (new_files : Seen) (new_keys : KeydirShown)
     : Type 0 where
   pub alone : CountsAlone tells files new_files
-  pub slots : new_keys.slots ≡ keys.slots
+  pub sees : SeesSame keys new_keys
   pub versions : (e : Entry) (v : Version) → In e new_keys.entries → In v e.1
       → (f : Entry) × In f keys.entries × (e.0 ≡ f.0) × In v f.1
   pub keeps : IsTrue tells → (ttl : ℕ) (c : Content) → ContentStands ttl files keys c → ContentStands ttl new_files new_keys c
