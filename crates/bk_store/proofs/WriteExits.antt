@@ -1,5 +1,5 @@
 -- The exits of a write: what each of them leaves.
-use Rattle.std.proofs.Common.{◌≡◌, ℕ, ◌<◌, Bool, List, [], ◌∷◌, length, refl, sym, ap, subst, ◌∙◌, inl}
+use Rattle.std.proofs.Common.{◌≡◌, ℕ, ◌<◌, Bool, List, [], ◌∷◌, length, refl, sym, ap, subst, ◌∙◌, arith, inl}
 use Rattle.std.specs.Prelude.{IsTrue}
 use Rattle.bk_base.specs.declared.writes.Version.{Version}
 use Rattle.bk_base.specs.declared.writes.Write.{Write}
@@ -19,7 +19,7 @@ use Rattle.bk_laws.proofs.RecordBytes.{length-record_of}
 use Rattle.bk_store.specs.declared.appending.Place.{Place}
 use Rattle.bk_store.specs.declared.errors.PutError.{PutError}
 use Rattle.bk_store.specs.declared.errors.PutError.TheVariants.{FullSeq, FullFiles, Disk, Memory}
-use Rattle.bk_store.specs.Appends.{AppendsAt, AppendsNot, CountsAlone, CrashMeetsPut, MayFollow, RowsHaveRoom, WhyNoAppend, WhyNoWrite, WritesDown, WritesNot}
+use Rattle.bk_store.specs.Appends.{AppendsAt, AppendsNot, CountsAlone, CrashMeetsPut, HasReserved, MayFollow, RowsHaveRoom, WhyNoAppend, WhyNoWrite, WritesDown, WritesNot}
 use Rattle.bk_store.specs.Rows.{RowsStand}
 use Rattle.bk_store.specs.Standing.{Content, ContentStands}
 use Rattle.bk_store.proofs.Contents.{content_kept, content_put, content_same}
@@ -82,6 +82,13 @@ module _ (tells : Bool) (w : Write) (text : List ℕ) (files : Seen) (keys ready
   why_not new FullFiles h = (ap (λ (n : ℕ). is_due n files) (sym long) ∙ h.0, h.1)
   why_not new Disk h = h
   why_not new Memory h = tt
+
+  -- what was reserved is enough, so the refusal isn't for memory
+  pub not_for_memory : (new : Seen) (e : PutError) (capacity : ℕ) → AppendsNot tells text files new e → e ≡ Memory
+      → HasReserved w files keys capacity → ⊥
+  not_for_memory new e capacity h is reserved =
+      subst (WhyNoAppend text files new) is h.why (ap (λ (n : ℕ). is_due n files) long ∙ reserved.no_new_file)
+      (omega (arith, long, reserved.room))
 
   pub writes_not : (new : Seen) (e : PutError) → AppendsNot tells text files new e → WritesNot tells w files keys new ready e
   writes_not new e h = record {

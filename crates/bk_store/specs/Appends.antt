@@ -15,7 +15,7 @@ use Rattle.bk_files.specs.declared.errors.RollError.TheVariants.{FullFiles as no
 use Rattle.bk_image.specs.Prefix.{MeetsEither}
 use Rattle.bk_image.specs.Readings.{Reading, bytes_in, main}
 use Rattle.bk_keydir.specs.Counts.{bytes_in as bytes_of_version, is_put_in, live_of, one_in, refs_of}
-use Rattle.bk_keydir.specs.Keydir.{Entry, with_version}
+use Rattle.bk_keydir.specs.Keydir.{Entry, HasRoom, with_version}
 use Rattle.bk_keydir.specs.Keydir.{Shown as KeydirShown}
 use Rattle.bk_laws.specs.Log.{last_seq}
 use Rattle.bk_laws.specs.Record.{IsWritable, record_of, size_of}
@@ -228,6 +228,14 @@ pub record HasVersionOf (w : Write) (old new : KeydirShown) : Type 0 where
   pub entries : new.entries ≡ with_version old.slots w.key version old.entries
 
 -- ---- a write, over every disk
+
+-- All that a write needs is there already: its record fits the active file, and neither making it nor
+-- its key's version takes memory.
+pub record HasReserved (w : Write) (files : Seen) (keys : KeydirShown) (capacity : ℕ) : Type 0 where
+  pub no_new_file : is_due (size_of w) files ≡ false
+  pub room : size_of w ≤ files.room
+  pub buffer : size_of w ≤ capacity
+  pub key : HasRoom w.key keys
 
 -- the write was made
 pub record WritesDown (tells : Bool) (w : Write) (rolled : Bool) (files : Seen) (keys : KeydirShown) (new : Seen) (now : KeydirShown)

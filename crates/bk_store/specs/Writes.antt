@@ -12,6 +12,7 @@ use Rattle.bk_laws.specs.Record.{size_of}
 use Rattle.bk_store.specs.declared.errors.PutError.{PutError}
 use Rattle.bk_store.specs.declared.errors.PutError.TheVariants.{FullSeq, FullFiles, Disk, Memory}
 use Rattle.bk_store.specs.declared.puts.Stored.{Stored}
+use Rattle.bk_store.specs.Appends.{HasReserved}
 use Rattle.bk_store.specs.Events.{GoesOn, Keeps}
 use Rattle.bk_store.specs.Loans.{is_live, is_put}
 use Rattle.bk_store.specs.Shown.{Shown}
@@ -39,6 +40,10 @@ IsWriteError w v u FullFiles =
     (v.seq < LAST_SEQ) × (u.seq ≡ v.seq) × (is_due (size_of w) v.files ≡ true) × (LAST_FILE ≤ last_of v.files)
 IsWriteError w v u Disk = (v.seq < LAST_SEQ) × (u.seq ≡ v.seq) × Rose v.files.faults u.files.faults
 IsWriteError w v u Memory = (v.seq < LAST_SEQ) × (u.seq ≡ v.seq)
+
+-- what the write needs is there already, so that memory can't refuse it
+abbrev pub IsReserved : Write → Shown → Type 0
+IsReserved w v = HasReserved w v.files v.keys v.buffer
 
 -- the newest version is a put that is no longer live
 abbrev pub is_expired : ℕ → ℕ → Option Version → Bool

@@ -1,15 +1,17 @@
 //! The events that write, and those that make room and sync.
-ghost use Rattle.std.specs.Prelude.{◌≡◌, ◌≤◌, ◌<◌, ◌+◌, ℕ, [], ◌∷◌, true, false, IsTrue, IsOk, IfOk, IfErr, OnOk, OnErr};
+ghost use Rattle.std.specs.Prelude.{◌≡◌, ◌≤◌, ◌<◌, ◌+◌, ℕ, [], ◌∷◌, true, false, IsTrue, IsOk, IfOk, IfErr, OnOk, OnErr, IsErrOf};
 ghost use Rattle.bk_base.specs.declared.calls.Answer.TheVariants.{Numbered};
 ghost use Rattle.bk_base.specs.declared.calls.Call.TheVariants.{Delete, Put as put_call, Reap, Sync};
 ghost use Rattle.bk_base.specs.declared.writes.Body.TheVariants.{Gone, Put};
+ghost use Rattle.bk_base.specs.declared.writes.Write.{Write};
 ghost use Rattle.bk_disk.specs.Causes.{IsCaused};
 ghost use Rattle.bk_files.specs.Files.{has_active, is_due};
-ghost use Rattle.bk_keydir.specs.Keydir.{newest_of, versions_of};
+ghost use Rattle.bk_keydir.specs.Keydir.{keeps_newest, newest_of, versions_of};
+ghost use Rattle.bk_laws.specs.Record.{size_of};
 ghost use Rattle.bk_store.specs.Appends.{CrashMeetsPut, PutsNothing, PutsWrite};
 ghost use Rattle.bk_store.specs.Events.{CrashMeets, GoesOn, Keeps, Refuses, entry_by, next_write, quiet_by};
 ghost use Rattle.bk_store.specs.Loans.{is_put};
-ghost use Rattle.bk_store.specs.Writes.{Buries, IsBuried, IsWriteError, IsWritten, KeepsRest, bury_reply, is_expired};
+ghost use Rattle.bk_store.specs.Writes.{Buries, IsBuried, IsReserved, IsWriteError, IsWritten, KeepsRest, bury_reply, is_expired};
 
 use crate::errors::PutError;
 use crate::prepared::Prepared;
@@ -29,13 +31,16 @@ pub struct Stored {
 
 impl<D: Disk> Store<D> {
     /// Puts a value. `FullSeq` comes exactly where the last seq is given out, and `FullFiles` only where
-    /// a new file is due and the last file number is given out. After `Disk` a first part of the record
+    /// a new file is due and the last file number is given out. `Memory` can't come where all that the
+    /// put needs was reserved. After `Disk` a first part of the record
     /// may stand in the active file; the next write or sync repairs it. A new file that was made stays.
     pub fn put(&mut self, prepared: Prepared, now: Moment) -> Result<Stored, PutError>
         ensures written { IfOk result (IsWritten
             (next_write self.old now prepared.key (Put prepared.value)) self.old self.new) }
         ensures error { IfErr result (IsWriteError
             (next_write self.old now prepared.key (Put prepared.value)) self.old self.new) }
+        ensures memory { IsReserved (next_write self.old now prepared.key (Put prepared.value)) self.old
+            → IsErrOf result PutError.Memory → ⊥ }
         ensures rest { KeepsRest self.old self.new }
         ensures ok { IsTrue D.tells → IfOk result (λ s. (who : ℕ) → GoesOn D.tells
             (entry_by who (put_call prepared.key prepared.value now) (Numbered s.seq))
@@ -122,6 +127,8 @@ impl<D: Disk> Store<D> {
     fn append(&mut self, key: Key, body: Body, now: Moment) -> Result<Stored, PutError>
         ensures written { IfOk result (IsWritten (next_write self.old now key body) self.old self.new) }
         ensures error { IfErr result (IsWriteError (next_write self.old now key body) self.old self.new) }
+        ensures memory { IsReserved (next_write self.old now key body) self.old
+            → IsErrOf result PutError.Memory → ⊥ }
         ensures rest { KeepsRest self.old self.new }
         ensures put { IsTrue D.tells → OnOk result (PutsWrite (next_write self.old now key body)
             self.old.files self.old.keys self.new.files self.new.keys) }
@@ -146,12 +153,15 @@ impl<D: Disk> Store<D> {
     }
 
     /// Makes room for a put of a record of so many bytes: then it isn't refused for memory where it
-    /// needs no new file, its key is new, and no fold is open.
+    /// needs no new file, and no open fold sees its key's newest version.
     pub fn reserve(&mut self, size: u32) -> Result<(), Memory>
         ensures key { OnOk result (0 < self.new.keys.spare) }
         ensures buffer { OnOk result (size ≤ self.new.buffer) }
         ensures file { OnOk result (is_due size self.old.files ≡ false
             → size ≤ self.new.files.room) }
+        ensures reserved { OnOk result (is_due size self.old.files ≡ false → (w : Write) → size_of w ≤ size
+            → keeps_newest self.old.keys.slots (versions_of w.key self.old.keys.entries) ≡ false
+            → IsReserved w self.new) }
         ensures keys { self.new.keys ≡ record self.old.keys { spare = self.new.keys.spare } }
         ensures more { self.old.keys.spare ≤ self.new.keys.spare }
         ensures catalog { self.new.files.catalog ≡ self.old.files.catalog }

@@ -1,11 +1,12 @@
 //! A write goes to the files and to the keydir.
-ghost use Rattle.std.specs.Prelude.{◌≡◌, ◌≤◌, length, IsTrue, IfErr, IfOk};
+ghost use Rattle.std.specs.Prelude.{◌≡◌, ◌≤◌, length, IsTrue, IfErr, IfOk, IsErrOf};
+ghost use Rattle.std.specs.Vec.{vec_capacity};
 ghost use Rattle.std.specs.Int.{w32, from_be_bytes};
 ghost use Rattle.bk_files.specs.Files.{IsConsistent};
 ghost use Rattle.bk_keydir.specs.Keydir.{IsNewer};
 ghost use Rattle.bk_laws.specs.Record.{IsSeq, IsWritable, record_of};
 ghost use Rattle.bk_laws.specs.Version.{version_at};
-ghost use Rattle.bk_store.specs.Appends.{CrashMeetsPut, FilesGo, WritesDown, WritesNot};
+ghost use Rattle.bk_store.specs.Appends.{CrashMeetsPut, FilesGo, HasReserved, WritesDown, WritesNot};
 
 use crate::appending::{Place, append_record};
 use crate::counting::put_version;
@@ -30,6 +31,8 @@ pub(crate) fn append_write<D: Disk>(
     ensures ok { IfOk result (λ rolled. WritesDown D.tells write rolled
         files.old keydir.old files.new keydir.new) }
     ensures err { IfErr result (WritesNot D.tells write files.old keydir.old files.new keydir.new) }
+    ensures memory { HasReserved write files.old keydir.old (vec_capacity buffer.old)
+        → IsErrOf result PutError.Memory → ⊥ }
     ensures slots { keydir.new.slots ≡ keydir.old.slots }
     ensures rest { FilesGo D.tells files.old files.new }
     ensures crash { IsTrue D.tells → CrashMeetsPut write files.old files.new }

@@ -1,11 +1,13 @@
 -- Each exit of a write.
-use Rattle.std.proofs.Common.{◌∙◌, ap, refl, subst, sym, ◌++◌, List, ℕ}
+use Rattle.std.proofs.Common.{◌≡◌, ◌∙◌, ap, refl, subst, sym, ◌++◌, List, ℕ}
 use Rattle.std.proofs.lemmas.Result.{err_from_is_err_and}
+use Rattle.std.specs.Vec.{vec_capacity}
 use Rattle.bk_keydir.specs.Keydir.{IsNewer}
 use Rattle.bk_keydir.specs.Keydir.{Shown as KeydirShown}
 use Rattle.bk_base.specs.declared.writes.Version.{Version}
 use Rattle.bk_laws.specs.Record.{record_of}
-use Rattle.bk_store.proofs.WriteExits.{crash_down, crash_not, crash_nothing, still_newer, writes_down, writes_not, writes_nothing}
+use Rattle.bk_store.specs.declared.errors.PutError.TheVariants.{Memory}
+use Rattle.bk_store.proofs.WriteExits.{crash_down, crash_not, crash_nothing, not_for_memory, still_newer, writes_down, writes_not, writes_nothing}
 use Rattle.bk_store.proofs.writing.append_write.Goals as goal
 
 pub returns-in_err-encode-clause-err : goal.returns-in_err-encode-clause-err
@@ -44,6 +46,19 @@ returns-in_err-place-clause-err g c =
     (c.as_slice.ensures.value ∙ c.in_ok-encode.ensures.ok ∙ ap (λ (l : List ℕ). l ++ record_of c.args.write) c.clear.ensures.items)
     (ap (λ (k : KeydirShown). k.slots) c.in_ok-ready.ensures.same)
     (ap (λ (k : KeydirShown). k.entries) c.in_ok-ready.ensures.same) c.append_record.new.files _ c.in_err-place.ensures.err)
+
+pub returns-in_err-place-clause-memory : goal.returns-in_err-place-clause-memory
+returns-in_err-place-clause-memory g c =
+    let p = err_from_is_err_and c.from_residual-in_err-place.result c.from_residual-in_err-place.ensures.1 in
+    rw (p.1, p.2)
+    (λ reserved is.
+    let memory : c.in_err-place.field-0.0 ≡ Memory = cc is in
+    not_for_memory g.D.Disk.tells c.args.write c.as_slice.result.now c.args.files.now c.args.keydir.now c.ready.new.self
+    c.in_ok-encode.ensures.writable
+    (c.as_slice.ensures.value ∙ c.in_ok-encode.ensures.ok ∙ ap (λ (l : List ℕ). l ++ record_of c.args.write) c.clear.ensures.items)
+    (ap (λ (k : KeydirShown). k.slots) c.in_ok-ready.ensures.same)
+    (ap (λ (k : KeydirShown). k.entries) c.in_ok-ready.ensures.same) c.append_record.new.files _
+    (vec_capacity c.args.buffer.now) c.in_err-place.ensures.err memory reserved)
 
 pub returns-in_err-place-clause-crash : goal.returns-in_err-place-clause-crash
 returns-in_err-place-clause-crash g c = λ tells.
