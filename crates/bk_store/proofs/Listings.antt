@@ -108,7 +108,8 @@ in_listing ttl s (e ∷ es) key is =
           subst (λ (k : List ℕ). is_among k (keys_in (pair_if (is_listed ttl s (at_epoch s.epoch.0 e.1)) e.0 (at_epoch s.epoch.0 e.1))) ≡ true)
           (sym same) (listed_pair ttl s e.0 (at_epoch s.epoch.0 e.1) is) in
           rw here refl
-      go false p is others = rw (others is) (or_true (is_among key (keys_in (pair_if (is_listed ttl s (at_epoch s.epoch.0 e.1)) e.0 (at_epoch s.epoch.0 e.1)))))
+      go false p is others =
+          rw (others is) (or_true (is_among key (keys_in (pair_if (is_listed ttl s (at_epoch s.epoch.0 e.1)) e.0 (at_epoch s.epoch.0 e.1)))))
 
 -- where nothing is left, each such key was listed
 pub all_among : (ttl : ℕ) (s : Slot) (cursor : ℕ) (es : List Entry) (key : List ℕ) → listing ttl s (drop cursor es) ≡ []

@@ -16,5 +16,6 @@ returns-in-Some-clause-rows g c =
 
 pub returns-in-Some-clause-alone : goal.returns-in-Some-clause-alone
 returns-in-Some-clause-alone g c =
-    counts_alone g.D.Disk.tells c.args.files.now c.count.new.self c.args.version.file.0 c.saturating_sub-live.result c.saturating_sub.result c.count.ensures.counts
+    counts_alone g.D.Disk.tells c.args.files.now c.count.new.self c.args.version.file.0
+    c.saturating_sub-live.result c.saturating_sub.result c.count.ensures.counts
     c.count.ensures.consistent c.count.ensures.scratch c.count.ensures.synced

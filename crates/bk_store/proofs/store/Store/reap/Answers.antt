@@ -16,8 +16,11 @@ returns-in-Some-clause-ok g c = λ tells.
     let old : is_fresh c.in-Some.version.moment.0 c.args.now.0 c.self.inside.settings.ttl ≡ false =
     sym c.live.ensures ∙ grind (arith, c.if-not-live.true) in
     reap_ok g.D.Disk.tells c.args.self.now c.bury.new.self c.args.now c.args.key.now c.bury.result
-    (subst (λ (x : Shown). is_expired x.settings.ttl c.args.now.0 (newest_of (versions_of c.args.key.now x.keys.entries)) ≡ true) c.self.view_is
-    (expired_if c.self.inside.settings.ttl c.args.now.0 c.in-Some.version (newest_of (versions_of c.args.key.now c.self.inside.keydir.entries)) (sym c.newest.ensures ∙ c.in-Some.is) put old))
+    (subst
+    (λ (x : Shown). is_expired x.settings.ttl c.args.now.0 (newest_of (versions_of c.args.key.now x.keys.entries)) ≡ true)
+    c.self.view_is
+    (expired_if c.self.inside.settings.ttl c.args.now.0 c.in-Some.version
+    (newest_of (versions_of c.args.key.now c.self.inside.keydir.entries)) (sym c.newest.ensures ∙ c.in-Some.is) put old))
     c.bury.ensures.written c.bury.ensures.rest (c.bury.ensures.put tells)
 
 pub returns-in-Some-clause-refused : goal.returns-in-Some-clause-refused
@@ -36,8 +39,11 @@ returns-in_default-clause-ok g c = λ tells who.
     let new : is_fresh c.in-Some.version.moment.0 c.args.now.0 c.self.inside.settings.ttl ≡ true =
     sym c.live.ensures ∙ grind (arith, c.if-not-live.false) in
     reap_nothing g.D.Disk.tells c.args.self.now c.args.now c.args.key.now who
-    (subst (λ (x : Shown). is_expired x.settings.ttl c.args.now.0 (newest_of (versions_of c.args.key.now x.keys.entries)) ≡ false) c.self.view_is
-    (fresh_if c.self.inside.settings.ttl c.args.now.0 c.in-Some.version (newest_of (versions_of c.args.key.now c.self.inside.keydir.entries)) (sym c.newest.ensures ∙ c.in-Some.is) put new))
+    (subst
+    (λ (x : Shown). is_expired x.settings.ttl c.args.now.0 (newest_of (versions_of c.args.key.now x.keys.entries)) ≡ false)
+    c.self.view_is
+    (fresh_if c.self.inside.settings.ttl c.args.now.0 c.in-Some.version
+    (newest_of (versions_of c.args.key.now c.self.inside.keydir.entries)) (sym c.newest.ensures ∙ c.in-Some.is) put new))
 
 pub returns-in_default-clause-crash : goal.returns-in_default-clause-crash
 returns-in_default-clause-crash g c = λ tells.
@@ -47,8 +53,11 @@ pub returns-in_default-2-clause-ok : goal.returns-in_default-2-clause-ok
 returns-in_default-2-clause-ok g c = λ tells who.
     let gone : c.in-Some.version.gone ≡ true = grind (arith, c.if-not-version.false) in
     reap_nothing g.D.Disk.tells c.args.self.now c.args.now c.args.key.now who
-    (subst (λ (x : Shown). is_expired x.settings.ttl c.args.now.0 (newest_of (versions_of c.args.key.now x.keys.entries)) ≡ false) c.self.view_is
-    (gone_if c.self.inside.settings.ttl c.args.now.0 c.in-Some.version (newest_of (versions_of c.args.key.now c.self.inside.keydir.entries)) (sym c.newest.ensures ∙ c.in-Some.is) gone))
+    (subst
+    (λ (x : Shown). is_expired x.settings.ttl c.args.now.0 (newest_of (versions_of c.args.key.now x.keys.entries)) ≡ false)
+    c.self.view_is
+    (gone_if c.self.inside.settings.ttl c.args.now.0 c.in-Some.version
+    (newest_of (versions_of c.args.key.now c.self.inside.keydir.entries)) (sym c.newest.ensures ∙ c.in-Some.is) gone))
 
 pub returns-in_default-2-clause-crash : goal.returns-in_default-2-clause-crash
 returns-in_default-2-clause-crash g c = λ tells.
@@ -57,7 +66,9 @@ returns-in_default-2-clause-crash g c = λ tells.
 pub returns-in_default-3-clause-ok : goal.returns-in_default-3-clause-ok
 returns-in_default-3-clause-ok g c = λ tells who.
     reap_nothing g.D.Disk.tells c.args.self.now c.args.now c.args.key.now who
-    (subst (λ (x : Shown). is_expired x.settings.ttl c.args.now.0 (newest_of (versions_of c.args.key.now x.keys.entries)) ≡ false) c.self.view_is
+    (subst
+    (λ (x : Shown). is_expired x.settings.ttl c.args.now.0 (newest_of (versions_of c.args.key.now x.keys.entries)) ≡ false)
+    c.self.view_is
     (ap (is_expired c.self.inside.settings.ttl c.args.now.0) (sym c.newest.ensures ∙ c.in_default.is)))
 
 pub returns-in_default-3-clause-crash : goal.returns-in_default-3-clause-crash
