@@ -5,6 +5,7 @@ pub mod RowCounts
 pub mod Stages
 pub mod Steadies
 pub mod Stepping
+pub mod Pasts
 pub mod Contents
 pub mod Syncs
 pub mod Events

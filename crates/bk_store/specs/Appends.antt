@@ -25,7 +25,7 @@ use Rattle.bk_store.specs.declared.errors.PutError.{PutError}
 use Rattle.bk_store.specs.declared.errors.PutError.TheVariants.{FullSeq, FullFiles, Disk, Memory}
 use Rattle.bk_store.specs.Shown.{known_bytes}
 use Rattle.bk_store.specs.Standing.{Content, ContentStands, FilesStand}
-use Rattle.bk_store.specs.Events.{IsLeft}
+use Rattle.bk_store.specs.Events.{IsLeft, KeepsPast}
 
 -- ---- the files
 
@@ -114,6 +114,7 @@ pub record KeepsFacts (old new : Seen) : Type 0 where
 -- over every disk
 pub record FilesGo (tells : Bool) (old new : Seen) : Type 0 where
   pub consistent : IsTrue tells → IsConsistent new
+  pub past : IsTrue tells → KeepsPast old.told new.told
   pub later : old.faults ≤ new.faults
   pub views : new.fallible_views ≡ old.fallible_views
   pub outs : new.fallible_outs ≡ old.fallible_outs

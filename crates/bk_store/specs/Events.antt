@@ -1,6 +1,6 @@
 -- What an event does to a store that stood for a history. It is said of every history for which the
 -- store stood, and of every step that tells what the event did: there is always one.
-use Rattle.std.specs.Prelude.{◌≡◌, ◌⊎◌, ℕ, ◌+◌, Bool, false, List, [], ◌∷◌, ◌++◌, cond, Option, None, Some}
+use Rattle.std.specs.Prelude.{◌≡◌, ◌⊎◌, ℕ, ◌+◌, ◌≤◌, Bool, false, List, [], ◌∷◌, ◌++◌, cond, Option, None, Some}
 use Rattle.bk_base.specs.declared.calls.Answer.{Answer}
 use Rattle.bk_base.specs.declared.calls.Answer.TheVariants.{Done}
 use Rattle.bk_base.specs.declared.calls.Call.{Call}
@@ -12,7 +12,7 @@ use Rattle.bk_base.specs.declared.numbers.Moment.{Moment}
 use Rattle.bk_base.specs.declared.writes.Body.{Body}
 use Rattle.bk_base.specs.declared.writes.Write.{Write}
 use Rattle.bk_disk.specs.Counts.{Counted}
-use Rattle.bk_disk.specs.Crashes.{AtEach}
+use Rattle.bk_disk.specs.Crashes.{AtEach, fronts_at}
 use Rattle.bk_disk.specs.Told.{Told, clock}
 use Rattle.bk_image.specs.Prefix.{MeetsEither}
 use Rattle.bk_laws.specs.History.{log_of}
@@ -71,3 +71,8 @@ CrashMeets more v w = (o : Opening) (h : List Step) (tried : List Write) → Sta
 -- the write that an event tries, behind those that have a seq so far
 abbrev pub next_write : Shown → Moment → List ℕ → Body → Write
 next_write v now key body = record { seq = record { 0 = v.seq + 1 }; moment = now; key = key; body = body }
+
+-- The disk's clock went on, and what it told of each moment so far it tells still.
+pub record KeepsPast (t u : Told) : Type 0 where
+  pub later : clock t ≤ clock u
+  pub same : (k : ℕ) → k ≤ clock t → fronts_at u k ≡ fronts_at t k

@@ -9,7 +9,7 @@ ghost use Rattle.bk_files.specs.Files.{has_active, is_due};
 ghost use Rattle.bk_keydir.specs.Keydir.{keeps_newest, newest_of, versions_of};
 ghost use Rattle.bk_laws.specs.Record.{size_of};
 ghost use Rattle.bk_store.specs.Appends.{CrashMeetsPut, PutsNothing, PutsWrite};
-ghost use Rattle.bk_store.specs.Events.{CrashMeets, GoesOn, Keeps, Refuses, entry_by, next_write, quiet_by};
+ghost use Rattle.bk_store.specs.Events.{CrashMeets, GoesOn, Keeps, KeepsPast, Refuses, entry_by, next_write, quiet_by};
 ghost use Rattle.bk_store.specs.Loans.{is_put};
 ghost use Rattle.bk_store.specs.Writes.{Buries, IsBuried, IsReserved, IsWriteError, IsWritten, KeepsRest, bury_reply, is_expired};
 
@@ -42,6 +42,7 @@ impl<D: Disk> Store<D> {
         ensures memory { IsReserved (next_write self.old now prepared.key (Put prepared.value)) self.old
             → IsErrOf result PutError.Memory → ⊥ }
         ensures rest { KeepsRest self.old self.new }
+        ensures past { IsTrue D.tells → KeepsPast self.old.files.told self.new.files.told }
         ensures ok { IsTrue D.tells → IfOk result (λ s. (who : ℕ) → GoesOn D.tells
             (entry_by who (put_call prepared.key prepared.value now) (Numbered s.seq))
             self.old self.new) }
@@ -64,6 +65,7 @@ impl<D: Disk> Store<D> {
             (is_put (newest_of (versions_of key.now self.old.keys.entries)) ≡ true)
             × IsWriteError (next_write self.old now key.now Gone) self.old self.new e) }
         ensures rest { KeepsRest self.old self.new }
+        ensures past { IsTrue D.tells → KeepsPast self.old.files.told self.new.files.told }
         ensures ok { IsTrue D.tells → IfOk result (λ found. (who : ℕ) → Buries D.tells found
             (entry_by who (Delete key.now now) (bury_reply found)) self.old self.new) }
         ensures refused { IsTrue D.tells → OnErr result ((who : ℕ) → Refuses D.tells who
@@ -87,6 +89,7 @@ impl<D: Disk> Store<D> {
             (newest_of (versions_of key.now self.old.keys.entries)) ≡ true)
             × IsWriteError (next_write self.old now key.now Gone) self.old self.new e) }
         ensures rest { KeepsRest self.old self.new }
+        ensures past { IsTrue D.tells → KeepsPast self.old.files.told self.new.files.told }
         ensures ok { IsTrue D.tells → IfOk result (λ found. (who : ℕ) → Buries D.tells found
             (entry_by who (Reap key.now now) (bury_reply found)) self.old self.new) }
         ensures refused { IsTrue D.tells → OnErr result ((who : ℕ) → Refuses D.tells who
@@ -108,6 +111,7 @@ impl<D: Disk> Store<D> {
         ensures written { IfOk result (IsBuried true (next_write self.old now key.now Gone) self.old self.new) }
         ensures error { IfErr result (IsWriteError (next_write self.old now key.now Gone) self.old self.new) }
         ensures rest { KeepsRest self.old self.new }
+        ensures past { IsTrue D.tells → KeepsPast self.old.files.told self.new.files.told }
         ensures put { IsTrue D.tells → OnOk result (PutsWrite (next_write self.old now key.now Gone)
             self.old.files self.old.keys self.new.files self.new.keys) }
         ensures refused { IsTrue D.tells → OnErr result (PutsNothing (next_write self.old now key.now Gone)
@@ -130,6 +134,7 @@ impl<D: Disk> Store<D> {
         ensures memory { IsReserved (next_write self.old now key body) self.old
             → IsErrOf result PutError.Memory → ⊥ }
         ensures rest { KeepsRest self.old self.new }
+        ensures past { IsTrue D.tells → KeepsPast self.old.files.told self.new.files.told }
         ensures put { IsTrue D.tells → OnOk result (PutsWrite (next_write self.old now key body)
             self.old.files self.old.keys self.new.files self.new.keys) }
         ensures refused { IsTrue D.tells → OnErr result (PutsNothing (next_write self.old now key body)
@@ -188,6 +193,7 @@ impl<D: Disk> Store<D> {
         ensures nothing { has_active self.old.files ≡ false → IsOk result × (self.new ≡ self.old) }
         ensures cause { IsCaused self.old.files.faults self.new.files.faults result }
         ensures rest { KeepsRest self.old self.new }
+        ensures past { IsTrue D.tells → KeepsPast self.old.files.told self.new.files.told }
         ensures ok { IsTrue D.tells → IfOk result (λ seq. (who : ℕ) → GoesOn D.tells
             (entry_by who Sync (Numbered seq)) self.old self.new) }
         ensures refused { IsTrue D.tells → OnErr result ((who : ℕ)

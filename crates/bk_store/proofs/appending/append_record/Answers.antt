@@ -5,6 +5,7 @@ use Rattle.std.proofs.lemmas.Result.{err_from_is_err_and}
 use Rattle.bk_files.specs.Catalog.{Known, due_of, torn_of}
 use Rattle.bk_files.specs.Files.{is_due}
 use Rattle.bk_store.proofs.AppendExits.{due_still, file_is, is_appended, mended_whole, not_appended, not_ready, not_repaired, not_rolled, rose_since, text_short, why_no_roll}
+use Rattle.bk_store.proofs.Pasts.{goes_passes, goes_repaired, goes_still, goes_then, past_half_repaired}
 use Rattle.bk_store.proofs.appending.append_record.Goals as goal
 
 pub overflow_cast-size : goal.overflow_cast-size
@@ -137,3 +138,53 @@ returns-clause-ok g c =
             synced = c.in_ok-at.ensures.synced tells;
           });
     }
+
+pub returns-in_err-repair-clause-rest : goal.returns-in_err-repair-clause-rest
+returns-in_err-repair-clause-rest g c = record {
+  consistent = c.in_err-repair.ensures.consistent;
+  past = λ tells. past_half_repaired c.args.files.now.catalog.active c.args.files.now.told c.repair.new.self.told
+      (c.in_err-repair.ensures.err.told tells);
+  later = c.in_err-repair.ensures.cause.later;
+  views = c.in_err-repair.ensures.views;
+  outs = c.in_err-repair.ensures.outs;
+}
+
+pub returns-in_err-rolled-clause-rest : goal.returns-in_err-rolled-clause-rest
+returns-in_err-rolled-clause-rest g c =
+    goes_then _ _ c.repair.new.self _
+    (goes_repaired _ _ _ c.in_ok-repair.ensures.ok c.in_ok-repair.ensures.consistent c.in_ok-repair.ensures.cause.later
+    c.in_ok-repair.ensures.views c.in_ok-repair.ensures.outs)
+    c.in_err-rolled.ensures.rest
+
+pub returns-in_err-ready-clause-rest : goal.returns-in_err-ready-clause-rest
+returns-in_err-ready-clause-rest g c =
+    goes_then _ _ c.repair.new.self _
+    (goes_repaired _ _ _ c.in_ok-repair.ensures.ok c.in_ok-repair.ensures.consistent c.in_ok-repair.ensures.cause.later
+    c.in_ok-repair.ensures.views c.in_ok-repair.ensures.outs)
+    (goes_then _ _ c.make_place.new.files _ c.in_ok-rolled.ensures.rest
+    (goes_still _ _ _ c.in_err-ready.ensures.consistent c.in_err-ready.ensures.told
+    (omega (arith, c.in_err-ready.ensures.faults)) c.in_err-ready.ensures.views c.in_err-ready.ensures.outs))
+
+pub returns-in_err-at-clause-rest : goal.returns-in_err-at-clause-rest
+returns-in_err-at-clause-rest g c =
+    goes_then _ _ c.repair.new.self _
+    (goes_repaired _ _ _ c.in_ok-repair.ensures.ok c.in_ok-repair.ensures.consistent c.in_ok-repair.ensures.cause.later
+    c.in_ok-repair.ensures.views c.in_ok-repair.ensures.outs)
+    (goes_then _ _ c.make_place.new.files _ c.in_ok-rolled.ensures.rest
+    (goes_then _ _ c.ready.new.self _
+    (goes_still _ _ _ c.in_ok-ready.ensures.consistent c.in_ok-ready.ensures.told
+    (omega (arith, c.in_ok-ready.ensures.faults)) c.in_ok-ready.ensures.views c.in_ok-ready.ensures.outs)
+    (goes_passes _ _ _ c.in_err-at.ensures.consistent (λ tells. (c.in_err-at.ensures.part tells).1.passes)
+    c.in_err-at.ensures.cause.later c.in_err-at.ensures.views c.in_err-at.ensures.outs)))
+
+pub returns-clause-rest : goal.returns-clause-rest
+returns-clause-rest g c =
+    goes_then _ _ c.repair.new.self _
+    (goes_repaired _ _ _ c.in_ok-repair.ensures.ok c.in_ok-repair.ensures.consistent c.in_ok-repair.ensures.cause.later
+    c.in_ok-repair.ensures.views c.in_ok-repair.ensures.outs)
+    (goes_then _ _ c.make_place.new.files _ c.in_ok-rolled.ensures.rest
+    (goes_then _ _ c.ready.new.self _
+    (goes_still _ _ _ c.in_ok-ready.ensures.consistent c.in_ok-ready.ensures.told
+    (omega (arith, c.in_ok-ready.ensures.faults)) c.in_ok-ready.ensures.views c.in_ok-ready.ensures.outs)
+    (goes_passes _ _ _ c.in_ok-at.ensures.consistent (λ tells. (c.in_ok-at.ensures.appended tells).passes)
+    c.in_ok-at.ensures.cause.later c.in_ok-at.ensures.views c.in_ok-at.ensures.outs)))

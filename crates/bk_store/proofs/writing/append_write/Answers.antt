@@ -8,6 +8,7 @@ use Rattle.bk_base.specs.declared.writes.Version.{Version}
 use Rattle.bk_laws.specs.Record.{record_of}
 use Rattle.bk_store.specs.declared.errors.PutError.TheVariants.{Memory}
 use Rattle.bk_store.proofs.WriteExits.{crash_down, crash_not, crash_nothing, not_for_memory, still_newer, writes_down, writes_not, writes_nothing}
+use Rattle.bk_store.proofs.Pasts.{goes_counted, goes_then}
 use Rattle.bk_store.proofs.writing.append_write.Goals as goal
 
 pub returns-in_err-encode-clause-err : goal.returns-in_err-encode-clause-err
@@ -102,3 +103,8 @@ returns-clause-crash g c = λ tells.
     (ap (λ (k : KeydirShown). k.slots) c.in_ok-ready.ensures.same)
     (ap (λ (k : KeydirShown). k.entries) c.in_ok-ready.ensures.same) c.in_ok-place.place c.append_record.new.files
     c.put_version.new.files tells c.in_ok-place.ensures.ok c.put_version.ensures.alone
+
+pub returns-clause-rest : goal.returns-clause-rest
+returns-clause-rest g c =
+    goes_then _ _ c.append_record.new.files _ c.in_ok-place.ensures.rest
+    (goes_counted _ _ _ c.in_ok-place.ensures.rest.consistent c.put_version.ensures.alone)

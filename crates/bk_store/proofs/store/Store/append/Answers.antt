@@ -3,10 +3,11 @@ use Rattle.bk_base.specs.declared.limits.TheConstants.{LAST_SEQ}
 use Rattle.bk_base.specs.declared.writes.Write.{Write}
 use Rattle.bk_disk.proofs.Results.{on_err}
 use Rattle.bk_store.specs.Appends.{CrashMeetsPut, PutsNothing, PutsWrite}
-use Rattle.bk_store.specs.Events.{next_write}
+use Rattle.bk_store.specs.Events.{KeepsPast, next_write}
 use Rattle.bk_store.specs.Shown.{Shown}
 use Rattle.bk_store.proofs.Steadies.{next_is_newer, steady_put, steady_same}
 use Rattle.bk_store.proofs.WriteExits.{crash_nothing}
+use Rattle.bk_store.proofs.Pasts.{past_same}
 use Rattle.bk_store.proofs.store.Store.append.Goals as goal
 
 pub returns-then-self-ge-LAST_SEQ-clause-crash : goal.returns-then-self-ge-LAST_SEQ-clause-crash
@@ -60,3 +61,16 @@ pub returns-clause-crash : goal.returns-clause-crash
 returns-clause-crash g c = λ tells.
     subst (λ (x : Shown). CrashMeetsPut (next_write x c.args.now c.args.key c.args.body) x.files c.append_write.new.files)
     c.self.view_is (c.in_ok-rolled.ensures.crash tells)
+
+pub returns-then-self-ge-LAST_SEQ-clause-past : goal.returns-then-self-ge-LAST_SEQ-clause-past
+returns-then-self-ge-LAST_SEQ-clause-past g c = λ tells. past_same c.args.self.now.files.told c.args.self.now.files.told refl
+
+pub returns-in_err-rolled-clause-past : goal.returns-in_err-rolled-clause-past
+returns-in_err-rolled-clause-past g c = λ tells.
+    subst (λ (x : Shown). KeepsPast x.files.told c.append_write.new.files.told) c.self.view_is
+    (c.in_err-rolled.ensures.rest.past tells)
+
+pub returns-clause-past : goal.returns-clause-past
+returns-clause-past g c = λ tells.
+    subst (λ (x : Shown). KeepsPast x.files.told c.append_write.new.files.told) c.self.view_is
+    (c.in_ok-rolled.ensures.rest.past tells)

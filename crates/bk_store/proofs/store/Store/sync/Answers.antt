@@ -3,9 +3,10 @@ use Rattle.std.specs.Vec.{vec_capacity}
 use Rattle.bk_base.specs.declared.calls.Answer.TheVariants.{Numbered}
 use Rattle.bk_base.specs.declared.calls.Call.TheVariants.{Sync}
 use Rattle.bk_disk.proofs.Results.{on_err}
-use Rattle.bk_store.specs.Events.{CrashMeets, GoesOn, Refuses, entry_by}
+use Rattle.bk_store.specs.Events.{CrashMeets, GoesOn, KeepsPast, Refuses, entry_by}
 use Rattle.bk_store.specs.Shown.{Shown}
 use Rattle.bk_store.proofs.Syncs.{sync_crash, sync_crash_refused, sync_goes_on, sync_refused}
+use Rattle.bk_store.proofs.Pasts.{past_not_synchronized, past_synchronized}
 use Rattle.bk_store.proofs.store.Store.sync.Goals as goal
 
 pub returns-in_err-sync-clause-refused : goal.returns-in_err-sync-clause-refused
@@ -83,3 +84,13 @@ returns-clause-crash g c = λ tells.
       totals = c.in_ok-sync.ensures.scratch tells;
       synced = c.in_ok-sync.ensures.synced tells;
     }))
+
+pub returns-in_err-sync-clause-past : goal.returns-in_err-sync-clause-past
+returns-in_err-sync-clause-past g c = λ tells.
+    subst (λ (x : Shown). KeepsPast x.files.told c.sync.new.self.told) c.self.view_is
+    (past_not_synchronized g.D.Disk.tells c.self.inside.files c.sync.new.self tells c.in_err-sync.ensures.err)
+
+pub returns-clause-past : goal.returns-clause-past
+returns-clause-past g c = λ tells.
+    subst (λ (x : Shown). KeepsPast x.files.told c.sync.new.self.told) c.self.view_is
+    (past_synchronized g.D.Disk.tells c.self.inside.files c.sync.new.self tells c.in_ok-sync.ensures.ok)
