@@ -12,6 +12,8 @@ mod prepared;
 mod puts;
 mod store;
 mod sweeps;
+#[cfg(test)]
+mod tests;
 mod writing;
 
 pub use bk_keydir::{FullFolds, Swept};
