@@ -1,0 +1,33 @@
+use Rattle.std.proofs.Common.{◌≡◌, IsTrue, take}
+use Rattle.std.specs.List.{AllByRecursion}
+use Rattle.bk_base.specs.declared.names.Name.{Name}
+use Rattle.bk_disk.specs.Told.{at}
+use Rattle.bk_image.specs.CountedFiles.{Counts}
+use Rattle.bk_image.specs.Readings.{Books, bytes_in, main}
+use Rattle.bk_image.specs.RecoveredLog.{HintsTrue}
+use Rattle.bk_laws.specs.Record.{AreRecords}
+use Rattle.bk_load.specs.Courses.{Came}
+use Rattle.bk_load.specs.Found.{HaveRead, IsFound, IsUncounted}
+use Rattle.bk_load.specs.Learning.{AreFit}
+use Rattle.bk_load.specs.Steps.{IsSyncedFile}
+use Rattle.bk_load.specs.declared.files.FileFound.{FileFound}
+use Rattle.bk_load.proofs.FoundFiles.{found_ids, ids_of}
+use Rattle.bk_load.proofs.files.read_files.Given as goal
+
+abbrev pub invariant-files : goal.invariant-files
+invariant-files g l = record {
+  came : Came g.D.Disk.tells
+      (record { told = g.D.Disk.told l.fn.disk; faults = g.D.Disk.faults l.fn.disk; views = g.D.Disk.fallible_views l.fn.disk; outs = g.D.Disk.fallible_outs l.fn.disk })
+      (record { told = g.D.Disk.told l.disk; faults = g.D.Disk.faults l.disk; views = g.D.Disk.fallible_views l.disk; outs = g.D.Disk.fallible_outs l.disk });
+  image : IsTrue g.D.Disk.tells → (g.D.Disk.told l.disk).image ≡ (g.D.Disk.told l.fn.disk).image;
+  fit : AreFit l.fn.learned → AreFit l.learned;
+  ids : found_ids l.found.items ≡ ids_of (take l.main-index l.main-items);
+  uncounted : AllByRecursion IsUncounted l.found.items;
+  found : IsTrue g.D.Disk.tells → AllByRecursion (IsFound (at (g.D.Disk.told l.fn.disk).image)) l.found.items;
+  synced : IsTrue g.D.Disk.tells
+      → AllByRecursion (λ (f : FileFound). IsSyncedFile (g.D.Disk.told l.disk) (main f.row.id.0)) l.found.items;
+  read : IsTrue g.D.Disk.tells → (books : Books)
+      → ((n : Name) → Counts (at (g.D.Disk.told l.fn.disk).image) n
+      → AreRecords (bytes_in (at (g.D.Disk.told l.fn.disk).image) n) (books n))
+      → HintsTrue (at (g.D.Disk.told l.fn.disk).image) books → HaveRead books l.found.items l.fn.learned l.learned;
+}

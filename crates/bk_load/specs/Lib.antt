@@ -1,0 +1,14 @@
+pub mod Errors
+pub mod Tidying
+pub mod Courses
+pub mod Directory
+pub mod Learning
+pub mod Lists
+pub mod Found
+pub mod Steps
+pub mod Scanning
+pub mod Hints
+pub mod Counting
+pub mod Loads
+pub mod Assembling
+pub mod SettingsFile

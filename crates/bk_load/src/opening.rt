@@ -1,0 +1,39 @@
+//! The store of a directory: what was recovered is what it starts from.
+ghost use Rattle.std.specs.Prelude.{◌≡◌, [], Err, List, IfErr, IfOk, IsTrue};
+ghost use Rattle.bk_base.specs.declared.writes.Write.{Write};
+ghost use Rattle.bk_disk.specs.Told.{at};
+ghost use Rattle.bk_image.specs.SoundDirectory.{IsSoundDisk};
+ghost use Rattle.bk_load.specs.Courses.{Came, Course};
+ghost use Rattle.bk_load.specs.Loads.{HasNoZero};
+ghost use Rattle.bk_load.specs.Tidying.{NoneLent};
+ghost use Rattle.bk_store.specs.Standing.{StandsFor};
+ghost use Rattle.bk_store.specs.Starting.{opening_of};
+
+use crate::errors::OpenError;
+use crate::recovery::recover;
+use bk_disk::Disk;
+use bk_policy::Settings;
+use bk_store::Store;
+use std::alloc::Global;
+
+/// The store of a directory, whatever a crash left of it. Where the directory is sound and synced, the
+/// store stands for the log that was there, and no step. After a refusal the disk comes back.
+pub fn open<D: Disk>(alloc: Global, disk: D, settings: Settings) -> Result<Store<D>, (D, OpenError)>
+    requires { IsTrue D.tells → NoneLent (D.told disk).fronts }
+    ensures came { IfOk result (λ store. Came D.tells
+        (record { told = D.told disk; faults = D.faults disk; views = D.fallible_views disk; outs = D.fallible_outs disk })
+        (record { told = store.files.told; faults = store.files.faults; views = store.files.fallible_views; outs = store.files.fallible_outs })) }
+    ensures stands { IsTrue D.tells → (log : List Write) → IsSoundDisk (D.told disk) log
+        → HasNoZero (at (D.told disk).image)
+        → IfOk result (λ store. StandsFor store (opening_of log store) [] []) }
+    ensures refused { IfErr result (λ refused. Course {T = Unit {0}} D.tells
+        (record { told = D.told disk; faults = D.faults disk; views = D.fallible_views disk; outs = D.fallible_outs disk })
+        (record { told = D.told refused.0; faults = D.faults refused.0; views = D.fallible_views refused.0; outs = D.fallible_outs refused.0 })
+        (Err refused.1)) }
+{
+    let mut disk = disk;
+    match recover(alloc, &mut disk) {
+        Ok(loaded) => Ok(Store::start(alloc, disk, loaded, settings)),
+        Err(error) => Err((disk, error)),
+    }
+}
