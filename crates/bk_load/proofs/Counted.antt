@@ -49,7 +49,7 @@ place_is rows i id d rise within is =
     let first : position_or_len (λ (r : Row). r.id.0 == id) rows ≡ i =
     position_or_len_is (λ (r : Row). r.id.0 == id) rows i d (omega (arith, within))
     (λ k lt. let p = rise_at 0 rows k i d rise lt within in
-        eq_not (get_or rows k d).id.0 id (λ same. absurd (omega (arith, p, same, is))))
+    eq_not (get_or rows k d).id.0 id (λ same. absurd (omega (arith, p, same, is))))
     (λ low. eq-eqb (get_or rows i d).id.0 id is) in
     let lt : nat_lt i (length rows) ≡ true = grind (arith, nat_tests, within) in
     ap (λ (n : ℕ). cond (nat_lt n (length rows)) (Some n) None) first ∙ ap (λ (b : Bool). cond b (Some i) None) lt
@@ -201,8 +201,7 @@ row_counted n id ((k, v ∷ []) ∷ es) rows r lone is live refs =
     let (t, last, others) =
     row_counted n id es (counted_if (Some v) rows) s lone.1 found (omega (arith, live, sl)) (omega (arith, refs, sr)) in
     let tl = others.live_is in
-    let tr = others.refs_is in
-    (
+    let tr = others.refs_is in (
       t,
       last,
       record {

@@ -145,13 +145,13 @@ newest_high key (q ∷ qs) v p is (inl here) same =
     newer_high (if_of key q) (newest_in key qs) v p.1 is (inl one)
 newest_high key (q ∷ qs) v p is (inr later) same =
     go (newest_in key qs) refl (λ w some. newest_high key qs w p some later same) where
-  go : (o : Option Version) → newest_in key qs ≡ o
-      → ((w : Version) → newest_in key qs ≡ Some w → p.1.seq.0 ≤ w.seq.0) → p.1.seq.0 ≤ v.seq.0
-  go None none within = absurd (none_read key qs p none later same)
-  go (Some w) some within =
-      let low = within w some in
-      let high = newer_high (if_of key q) (newest_in key qs) v w is (inr some) in
-      omega (arith, low, high)
+      go : (o : Option Version) → newest_in key qs ≡ o
+          → ((w : Version) → newest_in key qs ≡ Some w → p.1.seq.0 ≤ w.seq.0) → p.1.seq.0 ≤ v.seq.0
+      go None none within = absurd (none_read key qs p none later same)
+      go (Some w) some within =
+          let low = within w some in
+          let high = newer_high (if_of key q) (newest_in key qs) v w is (inr some) in
+          omega (arith, low, high)
 
 -- ---- where a version stands
 

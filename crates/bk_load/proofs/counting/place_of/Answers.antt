@@ -29,8 +29,7 @@ loop-low-preserved-then-here-id-2 c =
     let i = c.loop-low.invariant in
     let high = i.1 in
     let lt = c.loop-low-test.true in
-    let less = c.if-here-id-2.true in
-    (
+    let less = c.if-here-id-2.true in (
       omega (arith, lt),
       i.1,
       λ k below. go k (cases_lt k (c.loop-low.low + (c.loop-low.high - c.loop-low.low) / 2)) below,
@@ -54,8 +53,7 @@ pub loop-low-preserved : goal.loop-low-preserved
 loop-low-preserved c =
     let i = c.loop-low.invariant in
     let high = i.1 in
-    let lt = c.loop-low-test.true in
-    (
+    let lt = c.loop-low-test.true in (
       omega (arith, lt),
       omega (arith, high, lt),
       i.2,
