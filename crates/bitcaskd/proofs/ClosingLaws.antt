@@ -1,313 +1,362 @@
 -- From the end of the talk, over the last sync, to what the whole run did.
-use Rattle.std.proofs.Common.{◌≡◌, ◌∙◌, ℕ, ◌-◌, ◌≤◌, List, [], ◌∷◌, ◌++◌, length, drop, Bool, ◌⊎◌, refl, sym, ap, subst, arith, inl, inr, false, IsTrue, true}
+use Rattle.std.proofs.Common.{◌≡◌, ◌∙◌, ℕ, ◌≤◌, List, [], ◌∷◌, ◌++◌, drop, Bool, ◌⊎◌, refl, sym, ap, subst, arith, inl, inr, IsTrue, true}
+use Rattle.std.specs.List.{AllByRecursion}
+use Rattle.std.proofs.lemmas.Bool.{cases_lt}
 use Rattle.std.proofs.lemmas.List.{append-nil}
-use Rattle.bk_base.specs.declared.limits.TheConstants.{DEFAULT_MAX_FILE}
-use Rattle.bk_base.specs.declared.calls.Call.TheVariants.{Sync, Quiet}
-use Rattle.bk_base.specs.declared.calls.Answer.TheVariants.{Numbered, Done as done_answer}
+use Rattle.bk_base.specs.declared.calls.Answer.TheVariants.{Numbered}
+use Rattle.bk_base.specs.declared.calls.Call.TheVariants.{Sync}
+use Rattle.bk_base.specs.declared.calls.Entry.{Entry}
 use Rattle.bk_base.specs.declared.histories.Opening.{Opening}
 use Rattle.bk_base.specs.declared.histories.Step.{Step}
+use Rattle.bk_base.specs.declared.numbers.Seq.{Seq}
 use Rattle.bk_base.specs.declared.statuses.Status.{Status}
 use Rattle.bk_base.specs.declared.statuses.Status.TheVariants.{Done, Memory, Words, Disk, Source, Sink, Syntax, Settings, Damaged, Full, Long, NotBuilt, Door}
 use Rattle.bk_base.specs.declared.writes.Write.{Write}
-use Rattle.bk_base.specs.Blanks.{blank_opening, blank_settings}
 use Rattle.bk_disk.specs.Causes.{Rose}
-use Rattle.bk_disk.specs.Told.{Image, Told}
-use Rattle.bk_laws.specs.History.{State}
-use Rattle.bk_laws.specs.Session.{all_exchanges, steps_of, replies_of}
-use Rattle.bitcaskd.specs.Closing.{ClosesBy, IsSyncedAt}
-use Rattle.bk_disk.specs.Counts.{Counted}
-use Rattle.bk_disk.proofs.Counts.{counted_at_least, counted_exactly, counted_rise, counts_rose}
-use Rattle.bitcaskd.specs.Run.{Telling, Outside, IsBuilt, Reads, Writes, Closes, TakesMost, all_steps, Runs, IsImageAt, IsServed}
-use Rattle.bitcaskd.specs.Serving.{Site}
-use Rattle.bitcaskd.specs.Store.{Stands, IsImageOf}
-use Rattle.bitcaskd.specs.Talking.{Scene, outside_of, LeadTo, StandsAfter, LeftAfter, CountedOver, EndsAt, Stopped}
-use Rattle.bitcaskd.specs.Shelf.{filed, files}
-use Rattle.bitcaskd.proofs.StoreLaws.{exact_image}
-use Rattle.bitcaskd.proofs.ServingLaws.{step_of}
-use Rattle.bitcaskd.proofs.TalkingLaws.{at_site, leads_on, counts_on}
+use Rattle.bk_disk.specs.Told.{Front, Table, Told, clock}
+use Rattle.bk_disk.proofs.Counts.{counted_at_least, counts_rose}
+use Rattle.bk_image.specs.Prefix.{MeetsEither}
+use Rattle.bk_image.proofs.HoldsCrashes.{holds_at_rest, holds_now, holds_prefix}
+use Rattle.bk_laws.specs.History.{IsLegalHistory, log_of}
+use Rattle.bk_laws.specs.Session.{Exchange, Transcript, all_exchanges, steps_of, replies_of}
+use Rattle.bk_store.specs.Events.{CrashMeets, IsStepOf, KeepsPast, Refuses, entry_by, quiet_by}
+use Rattle.bk_store.specs.Events.{GoesOn as GoesOnAlways}
+use Rattle.bk_store.specs.History.{kept_of}
+use Rattle.bk_store.specs.Shown.{Shown}
+use Rattle.bk_store.specs.Standing.{FilesStand, StandsFor}
+use Rattle.bk_store.specs.Starting.{opening_of}
+use Rattle.bk_store.specs.Writes.{KeepsRest}
+use Rattle.bk_store.proofs.Stepping.{content_is}
+use Rattle.bitcaskd.specs.Closing.{ClosesAll, ClosesBy, SyncsNot, SyncsWith}
+use Rattle.bitcaskd.specs.Run.{Telling, Outside, AreAt, CrashesBetween, IsAllSynced, IsBuilt, IsLeftWith, IsLicensed, IsNew, Reads, Writes, Closes, TakesMost, all_steps, Runs, IsServed, tried_by}
+use Rattle.bitcaskd.specs.Serving.{Advances, IsLeft, IsOwn, site_of}
+use Rattle.bitcaskd.specs.Talking.{Scene, outside_of, CountedOver, EndsAt, Stopped}
+use Rattle.bitcaskd.proofs.ServingLaws.{advances, is_step_by, no_views, step_by}
+use Rattle.bitcaskd.proofs.TalkingLaws.{AllByRecursion-snoc, at_site, counts_on}
 
-opening_of : Scene → Opening
-opening_of start = record blank_opening {
-  settings = record blank_settings { max_file = DEFAULT_MAX_FILE };
-  faults = start.site.faults;
-  views = start.site.views;
+-- ---- the sync
+
+pub syncs_with : (tells : Bool) (v u : Shown) (seq : Seq) → KeepsRest v u
+    → (IsTrue tells → (who : ℕ) → GoesOnAlways tells (entry_by who Sync (Numbered seq)) v u)
+    → (IsTrue tells → KeepsPast v.files.told u.files.told) → (IsTrue tells → CrashMeets [] v u) → SyncsWith tells v u
+syncs_with tells v u seq rest goes past crash =
+    let step = step_by tells (entry_by 0 Sync (Numbered seq)) 0 v u in
+    let is = is_step_by tells (entry_by 0 Sync (Numbered seq)) 0 v u rest.later (no_views v u rest.views) rest.outs in
+    record {
+      seq = seq;
+      step = step;
+      entry = refl;
+      is_step = is;
+      goes = λ tell o h stood.
+          advances tells [] v u step o h [] tell is (goes tell 0 o h [] step stood is refl) (past tell) (crash tell o h [] stood);
+    }
+
+nothing_left : (left : List Write) → (left ≡ []) ⊎ ((left ≡ []) ⊎ (left ≡ [])) → left ≡ []
+nothing_left left (inl e) = e
+nothing_left left (inr (inl e)) = e
+nothing_left left (inr (inr e)) = e
+
+pub syncs_not : (tells : Bool) (v u : Shown) → KeepsRest v u → Rose v.files.faults u.files.faults
+    → (IsTrue tells → (who : ℕ) → Refuses tells who [] v u)
+    → (IsTrue tells → KeepsPast v.files.told u.files.told) → (IsTrue tells → CrashMeets [] v u) → SyncsNot tells v u
+syncs_not tells v u rest rose refuses past crash =
+    let (n, counted) = counts_rose v.files.faults u.files.faults rest.later rose in
+    let plain = is_step_by tells (quiet_by 0) 0 v u rest.later (no_views v u rest.views) rest.outs in
+    let step : Step = record (step_by tells (quiet_by 0) 0 v u) { faults = n } in
+    let is : IsStepOf tells v u step = record {
+      faults = counted_at_least true v.files.faults n u.files.faults counted;
+      views = plain.views;
+      outs = plain.outs;
+      at = refl;
+      snapshot = refl;
+      clean = refl;
+    } in
+    record {
+      rose = rose;
+      step = step;
+      failed = counted.some refl;
+      entry = refl;
+      is_step = is;
+      goes = λ tell o h stood.
+          let (left, of, stands) = refuses tell 0 o h [] step stood is refl in
+          advances tells [] v u step o h [] tell is
+          (subst (StandsFor u o (h ++ step ∷ [])) (nothing_left left of) stands) (past tell) (crash tell o h [] stood);
+    }
+
+-- a crash after a sync takes nothing
+sync_takes_nothing : (v : Shown) (o : Opening) (h : List Step) (step : Step) (seq : Seq)
+    → step.entry ≡ entry_by 0 Sync (Numbered seq) → StandsFor v o (h ++ step ∷ []) []
+    → IsAllSynced v.files.told (log_of o h)
+sync_takes_nothing v o h step seq is stands =
+    holds_at_rest
+    (subst (FilesStand v.files) (content_is o h step (entry_by 0 Sync (Numbered seq)) [] is) stands.content.disk).holds
+
+-- ---- what the disk is left with
+
+left_with : (v : Shown) (o : Opening) (h served : List Step) (cut : List Exchange) (tried : List Write)
+    → StandsFor v o h tried → IsLeft (tried_by cut (log_of o served)) tried → IsLeftWith v.files.told o h served cut
+left_with v o h served cut tried stands by = record {
+  tried = tried;
+  by = by;
+  image = holds_now stands.content.disk.holds;
+  crash = holds_prefix stands.content.disk.holds;
 }
 
+none_tried : (cut : List Exchange) (log left : List Write) → cut ≡ [] → IsLeft (tried_by cut log) left → left ≡ []
+none_tried cut log left none (inl e) = e
+none_tried cut log left none (inr e) = e ∙ ap (λ (c : List Exchange). tried_by c log) none
+
+-- the moments of a sync, behind all requests
+crashes_closing : (start : Told) (old new : Shown) (o : Opening) (turns : List Exchange) (step : Step)
+    → CrashesBetween start old.files.told o turns → Advances [] old new step o (steps_of turns) []
+    → CrashesBetween start new.files.told o turns
+crashes_closing start old new o turns step so a k low high =
+    elim (cases_lt k (clock old.files.told)) [
+      | inl lt ↦
+          let c = so k low lt in
+          record {
+            done = c.done;
+            rest = c.rest;
+            are = c.are;
+            later = c.later;
+            meets = subst
+                (λ (f : Table Front). MeetsEither (log_of o (steps_of c.done)) (kept_of o (steps_of c.done)) []
+                (tried_by c.rest (log_of o (steps_of c.done))) f)
+                (sym (a.past.same k (omega (arith, lt)))) c.meets;
+          }
+      | inr ge ↦ record {
+        done = turns;
+        rest = [];
+        are = append-nil turns;
+        later = tt;
+        meets = a.crash k ge (omega (arith, high));
+      }
+    ]
+
+-- where the disk tells, what is known at the end
+record Known (result : Status) (o : Opening) (start : Told) (store : Shown) (talk : Transcript) (closing : List Step)
+    : Type 0 where
+  pub legal : IsLegalHistory o (all_steps talk closing)
+  pub why : IsLicensed result o (steps_of talk.served)
+  pub left : IsLeftWith store.files.told o (all_steps talk closing) (steps_of talk.served) talk.cut
+  pub crash : CrashesBetween start store.files.told o (all_exchanges talk)
+  pub closed : AreAt store.files.told closing
+
+no_more : (status : Status) (o : Opening) (start now store : Shown) (talk : Transcript) → store ≡ now
+    → EndsAt status o start now talk → Known status o start.files.told store talk []
+no_more status o start now store talk same e =
+    let stands : StandsFor store o (all_steps talk []) e.tried =
+    subst (λ (v : Shown). StandsFor v o (all_steps talk []) e.tried) (sym same)
+    (subst (λ (h : List Step). StandsFor now o h e.tried) (sym (append-nil (steps_of (all_exchanges talk)))) e.stands) in
+    record {
+      legal = stands.legal;
+      why = e.why;
+      left = left_with store o (all_steps talk []) (steps_of talk.served) talk.cut e.tried stands e.by;
+      crash = subst (λ (v : Shown). CrashesBetween start.files.told v.files.told o (all_exchanges talk)) (sym same) e.crash;
+      closed = tt;
+    }
+
+one_more : (status result : Status) (o : Opening) (start now store : Shown) (talk : Transcript) (step : Step)
+    → EndsAt status o start now talk → talk.cut ≡ [] → ClosesAll now store step → IsLicensed result o (steps_of talk.served)
+    → Known result o start.files.told store talk (step ∷ [])
+one_more status result o start now store talk step e none closes why =
+    let h = steps_of (all_exchanges talk) in
+    let none_left = none_tried talk.cut (log_of o (steps_of talk.served)) e.tried none e.by in
+    let a = closes o h (subst (StandsFor now o h) none_left e.stands) in
+    record {
+      legal = a.stands.legal;
+      why = why;
+      left = left_with store o (h ++ step ∷ []) (steps_of talk.served) talk.cut [] a.stands (inl refl);
+      crash = crashes_closing start.files.told now store o (all_exchanges talk) step e.crash a;
+      closed = (a.at, tt);
+    }
+
+all_taken : (status : Status) (o : Opening) (start now store : Shown) (talk : Transcript) (step : Step) (seq : Seq)
+    → EndsAt status o start now talk → talk.cut ≡ [] → ClosesAll now store step
+    → step.entry ≡ entry_by 0 Sync (Numbered seq) → IsAllSynced store.files.told (log_of o (steps_of (all_exchanges talk)))
+all_taken status o start now store talk step seq e none closes is =
+    let h = steps_of (all_exchanges talk) in
+    let none_left = none_tried talk.cut (log_of o (steps_of talk.served)) e.tried none e.by in
+    sync_takes_nothing store o h step seq is (closes o h (subst (StandsFor now o h) none_left e.stands)).stands
+
+-- ---- the run
+
 -- the run, from its talk and the steps that close it
-runs : (tells : Telling) (start now : Scene) (site : Site) (status result : Status)
-    (closing : List Step) (s : Stopped tells start now status)
-    → (IsTrue tells.disk → start.site.told.image ≡ [])
-    → (IsTrue tells.disk → (log : List Write) × LeadTo (all_steps s.talk closing) log
-    × IsImageAt result site.told.image log)
+runs : (tells : Telling) (log : List Write) (start now : Scene) (store : Shown) (status result : Status)
+    (closing : List Step) (s : Stopped tells (opening_of log start.site.store) start now status)
+    → IsNew (opening_of log start.site.store) → (IsTrue tells.disk → start.site.store.files.told.image ≡ [])
+    → (IsTrue tells.disk
+    → Known result (opening_of log start.site.store) start.site.store.files.told store s.talk closing)
     → IsServed result s.talk
-    → CountedOver start.site site (all_steps s.talk closing) → Closes tells.disk site.told result closing
+    → AllByRecursion IsOwn (all_steps s.talk closing)
+    → CountedOver start.site.store store (all_steps s.talk closing)
+    → Closes tells.disk store.files.told (log_of (opening_of log start.site.store) (steps_of (all_exchanges s.talk))) result closing
     → (IsTrue tells.source → Reads result (drop start.taken start.whole) (drop now.taken now.whole) s.talk)
     → ((out : List ℕ) → Writes status start.sink_faults now.sink_faults out (replies_of s.talk.served)
     → Writes result start.sink_faults now.sink_faults out (replies_of s.talk.served))
-    → TakesMost result tells.source start.taken now.taken → site.moments ≡ now.site.moments
-    → Runs tells (outside_of start) (outside_of (at_site now site)) result
-unfolding opening_of
-runs tells start now site status result closing s listed after served counts closes reads writes most same = record {
-  opening = opening_of start;
+    → TakesMost result tells.source start.taken now.taken
+    → Runs tells (outside_of start) (outside_of (at_site now (site_of store now.site.moments))) result
+runs tells log start now store status result closing s is_new listed known served own counts closes reads writes most = record {
+  opening = opening_of log start.site.store;
   talk = s.talk;
   closing = closing;
-  is_new = record { log = refl; folds = refl; ttl = refl };
+  is_new = is_new;
   listed = listed;
   said = s.said;
   served = served;
   whole = s.whole;
   reads = reads;
   writes = λ t. let (out, is, wrote) = s.writes t in (out, is, writes out wrote);
-  ticks = λ t. rw same (s.ticks t);
+  ticks = s.ticks;
   closes = closes;
   most = most;
-  legal = λ t. let (log, leads, image) = after t in leads.legal;
-  image = λ t. let (log, leads, image) = after t in
-      subst (λ (l : List Write). IsImageAt result site.told.image l)
-      (sym (ap (λ (st : State). st.log) leads.state)) image;
-  from = omega arith;
-  from_views = omega arith;
+  own = own;
+  legal = λ t. (known t).legal;
+  why = λ t. (known t).why;
+  left = λ t. (known t).left;
+  crash = λ t. (known t).crash;
+  closed = λ t. (known t).closed;
+  from = (omega arith, omega arith, omega arith);
   faults = counts.faults;
   views = counts.views;
+  outs = counts.outs;
 }
 
--- the files are exactly those of the log, whatever the status
-exact_at : (status : Status) (image : Image) (log : List Write) → image ≡ files (filed log) → IsImageAt status image log
-exact_at Done image log is = is
-exact_at Memory image log is = ([], omega arith, inl is)
-exact_at Words image log is = is
-exact_at Disk image log is = ([], omega arith, inl is)
-exact_at Source image log is = is
-exact_at Sink image log is = is
-exact_at Syntax image log is = is
-exact_at Settings image log is = is
-exact_at Damaged image log is = is
-exact_at Full image log is = is
-exact_at Long image log is = is
-exact_at NotBuilt image log is = is
-exact_at Door image log is = is
-
-exact_after : (status : Status) (site : Site) (steps : List Step) → StandsAfter site steps
-    → (log : List Write) × LeadTo steps log × IsImageAt status site.told.image log
-exact_after status site steps stood = let (log, leads, holds) = stood in
-    (log, leads, exact_at status site.told.image log (exact_image site.told site.catalog site.index log holds))
-
-left_after : (site : Site) (steps : List Step) → LeftAfter site steps → (log : List Write)
-    × LeadTo steps log × ((tried : List Write) × (length tried ≤ 1) × IsImageOf site.told.image log tried)
-left_after site steps left = let (log, tried, leads, few, image) = left in (log, leads, (tried, few, image))
-
--- what the files hold where the talk ended so
-image_at : (status : Status) (site : Site) (steps : List Step) → EndsAt status site steps
-    → (log : List Write) × LeadTo steps log × IsImageAt status site.told.image log
-image_at Done site steps ends = exact_after Done site steps ends
-image_at Memory site steps ends = left_after site steps ends
-image_at Words site steps ends = exact_after Words site steps ends
-image_at Disk site steps ends = left_after site steps ends
-image_at Source site steps ends = exact_after Source site steps ends
-image_at Sink site steps ends = exact_after Sink site steps ends
-image_at Syntax site steps ends = exact_after Syntax site steps ends
-image_at Settings site steps ends = exact_after Settings site steps ends
-image_at Damaged site steps ends = exact_after Damaged site steps ends
-image_at Full site steps ends = exact_after Full site steps ends
-image_at Long site steps ends = exact_after Long site steps ends
-image_at NotBuilt site steps ends = exact_after NotBuilt site steps ends
-image_at Door site steps ends = exact_after Door site steps ends
-
 -- a run that no sync closes
-unsynced : (tells : Telling) (start now : Scene) (site : Site) (status : Status) (s : Stopped tells start now status)
-    → (IsTrue tells.disk → start.site.told.image ≡ [])
-    → (IsTrue tells.disk → EndsAt status now.site (steps_of (all_exchanges s.talk)))
-    → Closes tells.disk site.told status []
-    → (IsTrue tells.disk → site.told.image ≡ now.site.told.image) → site.faults ≡ now.site.faults
-    → site.views ≡ now.site.views → site.moments ≡ now.site.moments
-    → TakesMost status tells.source start.taken now.taken
-    → Runs tells (outside_of start) (outside_of (at_site now site)) status
-unsynced tells start now site status s listed left closes image faults views moments most =
-    runs tells start now site status status [] s listed
-    (λ t. let (log, leads, held) = image_at status now.site (steps_of (all_exchanges s.talk)) (left t) in (
-      log,
-      subst (λ (steps : List Step). LeadTo steps log)
-          (sym (append-nil (steps_of (all_exchanges s.talk)))) leads,
-      subst (λ (i : Image). IsImageAt status i log) (sym (image t)) held,
-    ))
+unsynced : (tells : Telling) (log : List Write) (start now : Scene) (store : Shown) (status : Status)
+    (s : Stopped tells (opening_of log start.site.store) start now status)
+    → IsNew (opening_of log start.site.store) → (IsTrue tells.disk → start.site.store.files.told.image ≡ [])
+    → store ≡ now.site.store
+    → Closes tells.disk store.files.told (log_of (opening_of log start.site.store) (steps_of (all_exchanges s.talk))) status []
+    → Runs tells (outside_of start) (outside_of (at_site now (site_of store now.site.moments))) status
+unsynced tells log start now store status s is_new listed same closes =
+    runs tells log start now store status status [] s is_new listed
+    (λ t. no_more status (opening_of log start.site.store) start.site.store now.site.store store s.talk same (s.ends t))
     s.served
-    (subst (λ (steps : List Step). CountedOver start.site site steps)
-    (sym (append-nil (steps_of (all_exchanges s.talk))))
-    (record { faults = rw faults s.counts.faults; views = rw views s.counts.views }))
-    closes s.reads (λ out w. w) most moments
+    (subst (AllByRecursion IsOwn) (sym (append-nil (steps_of (all_exchanges s.talk)))) s.own)
+    (subst (λ (v : Shown). CountedOver start.site.store v (all_steps s.talk [])) (sym same)
+    (subst (λ (steps : List Step). CountedOver start.site.store now.site.store steps)
+    (sym (append-nil (steps_of (all_exchanges s.talk)))) s.counts))
+    closes s.reads (λ out w. w) s.most
 
--- the numbers of one more step
-with_step : (start now site : Site) (steps : List Step) (step : Step) → CountedOver start now steps
-    → Counted false now.faults step.faults site.faults → site.views ≡ now.views → step.views ≡ 0
-    → CountedOver start site (steps ++ step ∷ [])
-with_step start now site steps step so_far faults views none =
-    counts_on start now site steps step so_far faults
-    (counted_exactly now.views step.views site.views (omega (arith, views, none)))
-
-sync_step : Site → ℕ → Step
-sync_step now faults =
-    step_of (record { caller = 0; call = Sync; reply = Numbered (record { 0 = now.index.last }) }) faults 0
-
-quiet_step : ℕ → Step
-quiet_step faults = step_of (record { caller = 0; call = Quiet; reply = done_answer }) faults 0
-
--- a count that rose, by at least 1
-risen : (before now : ℕ) → before ≤ now → Rose before now → (n : ℕ) × (1 ≤ n) × Counted false before n now
-risen before now later rose =
-    let (n, counted) =
-    counts_rose before now later
-    rose in (n, counted.some refl, counted_at_least true before n now counted)
-
--- the run after a good sync
-synced_run : (tells : Telling) (start now : Scene) (site : Site) (status : Status) (s : Stopped tells start now status)
-    → (IsTrue tells.disk → start.site.told.image ≡ [])
-    → (IsTrue tells.disk → StandsAfter now.site (steps_of (all_exchanges s.talk)))
-    → ((n : ℕ) → Closes tells.disk site.told status (sync_step now.site n ∷ []))
-    → (IsTrue tells.disk → site.told.image ≡ now.site.told.image) → now.site.faults ≤ site.faults
-    → site.views ≡ now.site.views → site.moments ≡ now.site.moments
-    → TakesMost status tells.source start.taken now.taken
-    → Runs tells (outside_of start) (outside_of (at_site now site)) status
-unfolding sync_step
-synced_run tells start now site status s listed stands closes image later views moments most =
-    runs tells start now site status status (sync_step now.site (site.faults - now.site.faults) ∷ []) s listed
-    (λ t. let (log, leads, holds) = stands t in (
-      log,
-      leads_on (steps_of (all_exchanges s.talk)) log
-          (sync_step now.site (site.faults - now.site.faults)) log leads
-          (record { legal = holds.last; state = refl }),
-      exact_at status site.told.image log
-          (image t ∙ exact_image now.site.told now.site.catalog now.site.index log holds),
-    ))
-    s.served
-    (with_step start.site now.site site (steps_of (all_exchanges s.talk))
-    (sync_step now.site (site.faults - now.site.faults)) s.counts
-    (counted_rise now.site.faults site.faults later) views refl)
-    (closes (site.faults - now.site.faults)) s.reads (λ out w. w) most moments
-
--- the run after a sync that failed
-failed_run : (tells : Telling) (start now : Scene) (site : Site) (status result : Status)
-    (s : Stopped tells start now status)
-    → (IsTrue tells.disk → start.site.told.image ≡ [])
-    → (IsTrue tells.disk → StandsAfter now.site (steps_of (all_exchanges s.talk)))
-    → (n : ℕ) → Closes tells.disk site.told result (quiet_step n ∷ []) → Counted false now.site.faults n site.faults
-    → (IsTrue tells.disk → site.told.image ≡ now.site.told.image) → site.views ≡ now.site.views
-    → site.moments ≡ now.site.moments
-    → (IsTrue tells.source → Reads result (drop start.taken start.whole) (drop now.taken now.whole) s.talk)
-    → ((out : List ℕ) → Writes status start.sink_faults now.sink_faults out (replies_of s.talk.served)
+-- a run that a sync closes, with the status that the talk ended with
+module _ (tells : Telling) (log : List Write) (start now : Scene) (store : Shown) (status result : Status)
+    (s : Stopped tells (opening_of log start.site.store) start now status)
+    (is_new : IsNew (opening_of log start.site.store))
+    (listed : IsTrue tells.disk → start.site.store.files.told.image ≡ [])
+    (served : IsServed result s.talk) (none : s.talk.cut ≡ [])
+    (why : IsTrue tells.disk → IsLicensed result (opening_of log start.site.store) (steps_of s.talk.served))
+    (reads : IsTrue tells.source → Reads result (drop start.taken start.whole) (drop now.taken now.whole) s.talk)
+    (writes : (out : List ℕ) → Writes status start.sink_faults now.sink_faults out (replies_of s.talk.served)
     → Writes result start.sink_faults now.sink_faults out (replies_of s.talk.served))
-    → TakesMost result tells.source start.taken now.taken → IsServed result s.talk
-    → Runs tells (outside_of start) (outside_of (at_site now site)) result
-unfolding quiet_step
-failed_run tells start now site status result s listed stands n closes counted image views moments
-    reads writes most served =
-    runs tells start now site status result (quiet_step n ∷ []) s listed
-    (λ t. let (log, leads, holds) = stands t in (
-      log,
-      leads_on (steps_of (all_exchanges s.talk)) log (quiet_step n) log leads (record { legal = tt; state = refl }),
-      exact_at result site.told.image log
-          (image t ∙ exact_image now.site.told now.site.catalog now.site.index log holds),
-    ))
-    served
-    (with_step start.site now.site site (steps_of (all_exchanges s.talk)) (quiet_step n) s.counts counted views refl)
-    closes reads writes most moments
+    (most : TakesMost result tells.source start.taken now.taken) where
+  by_step : (step : Step) → IsOwn step → IsStepOf tells.disk now.site.store store step
+      → (IsTrue tells.disk → ClosesAll now.site.store store step)
+      → Closes tells.disk store.files.told (log_of (opening_of log start.site.store) (steps_of (all_exchanges s.talk)))
+      result (step ∷ [])
+      → Runs tells (outside_of start) (outside_of (at_site now (site_of store now.site.moments))) result
+  by_step step own is goes closes =
+      runs tells log start now store status result (step ∷ []) s is_new listed
+      (λ t. one_more status result (opening_of log start.site.store) start.site.store now.site.store store s.talk step
+      (s.ends t) none (goes t) (why t))
+      served
+      (AllByRecursion-snoc IsOwn (steps_of (all_exchanges s.talk)) step s.own own)
+      (counts_on tells.disk start.site.store now.site.store store (steps_of (all_exchanges s.talk)) step s.counts is)
+      closes reads writes most
 
 -- From the end of the talk to the end of the run.
-pub closed : (tells : Telling) (start now : Scene) (site : Site) (status result : Status)
-    → Stopped tells start now status
-    → (IsTrue tells.disk → start.site.told.image ≡ [])
-    → ClosesBy tells.disk status result site.told now.site.faults site.faults
-    → (IsTrue tells.disk → site.told.image ≡ now.site.told.image) → now.site.faults ≤ site.faults
-    → site.views ≡ now.site.views → site.moments ≡ now.site.moments
-    → Runs tells (outside_of start) (outside_of (at_site now site)) result
-unfolding sync_step quiet_step
-closed tells start now site Done result s listed (inl done) image later views moments =
-    subst (λ (r : Status). Runs tells (outside_of start) (outside_of (at_site now site)) r) (sym done.0)
-    (synced_run tells start now site Done s listed s.ends
-    (λ n. record { call = refl; synced = done.1 }) image later views moments s.most)
-closed tells start now site Done result s listed (inr failed) image later views moments =
-    let (n, some, counted) = risen now.site.faults site.faults later failed.1 in
-    subst (λ (r : Status). Runs tells (outside_of start) (outside_of (at_site now site)) r) (sym failed.0)
-    (failed_run tells start now site Done Disk s listed s.ends n
-    (record { call = refl; failed = some }) counted image views moments
-    (λ t. ([], s.reads t ∙ sym (append-nil _))) (λ out w. inl w) tt tt)
-closed tells start now site NotBuilt result s listed (is, inl synced) image later views moments =
-    subst (λ (r : Status). Runs tells (outside_of start) (outside_of (at_site now site)) r) (sym is)
-    (synced_run tells start now site NotBuilt s listed s.ends
-    (λ n. inl (record { call = refl; synced = synced })) image later views moments tt)
-closed tells start now site NotBuilt result s listed (is, inr rose) image later views moments =
-    let (n, some, counted) = risen now.site.faults site.faults later rose in
-    subst (λ (r : Status). Runs tells (outside_of start) (outside_of (at_site now site)) r) (sym is)
-    (failed_run tells start now site NotBuilt NotBuilt s listed s.ends n
-    (inr (record { call = refl; failed = some })) counted image views moments
-    s.reads (λ out w. w) tt s.served)
-closed tells start now site Memory result s listed (is, same) image later views moments =
-    subst (λ (r : Status). Runs tells (outside_of start) (outside_of (at_site now site)) r) (sym is)
-    (unsynced tells start now site Memory s listed s.ends refl image same views moments s.most)
-closed tells start now site Words result s listed (is, same) image later views moments =
-    subst (λ (r : Status). Runs tells (outside_of start) (outside_of (at_site now site)) r) (sym is)
-    (unsynced tells start now site Words s listed s.ends refl image same views moments s.most)
-closed tells start now site Disk result s listed (is, same) image later views moments =
-    subst (λ (r : Status). Runs tells (outside_of start) (outside_of (at_site now site)) r) (sym is)
-    (unsynced tells start now site Disk s listed s.ends refl image same views moments s.most)
-closed tells start now site Source result s listed (is, same) image later views moments =
-    subst (λ (r : Status). Runs tells (outside_of start) (outside_of (at_site now site)) r) (sym is)
-    (unsynced tells start now site Source s listed s.ends refl image same views moments s.most)
-closed tells start now site Sink result s listed (is, same) image later views moments =
-    subst (λ (r : Status). Runs tells (outside_of start) (outside_of (at_site now site)) r) (sym is)
-    (unsynced tells start now site Sink s listed s.ends refl image same views moments s.most)
-closed tells start now site Syntax result s listed (is, same) image later views moments =
-    subst (λ (r : Status). Runs tells (outside_of start) (outside_of (at_site now site)) r) (sym is)
-    (unsynced tells start now site Syntax s listed s.ends refl image same views moments s.most)
-closed tells start now site Settings result s listed (is, same) image later views moments =
-    subst (λ (r : Status). Runs tells (outside_of start) (outside_of (at_site now site)) r) (sym is)
-    (unsynced tells start now site Settings s listed s.ends refl image same views moments s.most)
-closed tells start now site Damaged result s listed (is, same) image later views moments =
-    subst (λ (r : Status). Runs tells (outside_of start) (outside_of (at_site now site)) r) (sym is)
-    (unsynced tells start now site Damaged s listed s.ends refl image same views moments s.most)
-closed tells start now site Full result s listed (is, same) image later views moments =
-    subst (λ (r : Status). Runs tells (outside_of start) (outside_of (at_site now site)) r) (sym is)
-    (unsynced tells start now site Full s listed s.ends refl image same views moments s.most)
-closed tells start now site Long result s listed (is, same) image later views moments =
-    subst (λ (r : Status). Runs tells (outside_of start) (outside_of (at_site now site)) r) (sym is)
-    (unsynced tells start now site Long s listed s.ends refl image same views moments s.most)
-closed tells start now site Door result s listed (is, same) image later views moments =
-    subst (λ (r : Status). Runs tells (outside_of start) (outside_of (at_site now site)) r) (sym is)
-    (unsynced tells start now site Door s listed s.ends refl image same views moments s.most)
+pub closed : (tells : Telling) (log : List Write) (start now : Scene) (store : Shown) (status result : Status)
+    → Stopped tells (opening_of log start.site.store) start now status
+    → IsNew (opening_of log start.site.store) → (IsTrue tells.disk → start.site.store.files.told.image ≡ [])
+    → ClosesBy tells.disk status result now.site.store store
+    → Runs tells (outside_of start) (outside_of (at_site now (site_of store now.site.moments))) result
+closed tells log start now store Done result s is_new listed (inl (is, sync)) =
+    subst (λ (r : Status). Runs tells (outside_of start) (outside_of (at_site now (site_of store now.site.moments))) r) (sym is)
+    (by_step tells log start now store Done Done s is_new listed s.served s.served (λ t. tt) s.reads (λ out w. w) s.most
+    sync.step (ap (λ (e : Entry). e.caller) sync.entry) sync.is_step sync.goes
+    (record {
+      call = ap (λ (e : Entry). e.call) sync.entry;
+      synced = λ t. all_taken Done (opening_of log start.site.store) start.site.store now.site.store store s.talk sync.step
+          sync.seq (s.ends t) s.served (sync.goes t) sync.entry;
+    }))
+closed tells log start now store Done result s is_new listed (inr (is, failed)) =
+    subst (λ (r : Status). Runs tells (outside_of start) (outside_of (at_site now (site_of store now.site.moments))) r) (sym is)
+    (by_step tells log start now store Done Disk s is_new listed tt s.served (λ t. tt)
+    (λ t. ([], s.reads t ∙ sym (append-nil _))) (λ out w. inl w) tt
+    failed.step (ap (λ (e : Entry). e.caller) failed.entry) failed.is_step failed.goes
+    (record { call = ap (λ (e : Entry). e.call) failed.entry; failed = failed.failed }))
+closed tells log start now store NotBuilt result s is_new listed (is, inl sync) =
+    subst (λ (r : Status). Runs tells (outside_of start) (outside_of (at_site now (site_of store now.site.moments))) r) (sym is)
+    (by_step tells log start now store NotBuilt NotBuilt s is_new listed s.served s.served (λ t. tt) s.reads (λ out w. w)
+    tt sync.step (ap (λ (e : Entry). e.caller) sync.entry) sync.is_step sync.goes
+    (inl (record {
+      call = ap (λ (e : Entry). e.call) sync.entry;
+      synced = λ t. all_taken NotBuilt (opening_of log start.site.store) start.site.store now.site.store store s.talk
+          sync.step sync.seq (s.ends t) s.served (sync.goes t) sync.entry;
+    })))
+closed tells log start now store NotBuilt result s is_new listed (is, inr failed) =
+    subst (λ (r : Status). Runs tells (outside_of start) (outside_of (at_site now (site_of store now.site.moments))) r) (sym is)
+    (by_step tells log start now store NotBuilt NotBuilt s is_new listed s.served s.served (λ t. tt) s.reads (λ out w. w)
+    tt failed.step (ap (λ (e : Entry). e.caller) failed.entry) failed.is_step failed.goes
+    (inr (record { call = ap (λ (e : Entry). e.call) failed.entry; failed = failed.failed })))
+closed tells log start now store Memory result s is_new listed (is, same) =
+    subst (λ (r : Status). Runs tells (outside_of start) (outside_of (at_site now (site_of store now.site.moments))) r) (sym is)
+    (unsynced tells log start now store Memory s is_new listed same refl)
+closed tells log start now store Words result s is_new listed (is, same) =
+    subst (λ (r : Status). Runs tells (outside_of start) (outside_of (at_site now (site_of store now.site.moments))) r) (sym is)
+    (unsynced tells log start now store Words s is_new listed same refl)
+closed tells log start now store Disk result s is_new listed (is, same) =
+    subst (λ (r : Status). Runs tells (outside_of start) (outside_of (at_site now (site_of store now.site.moments))) r) (sym is)
+    (unsynced tells log start now store Disk s is_new listed same refl)
+closed tells log start now store Source result s is_new listed (is, same) =
+    subst (λ (r : Status). Runs tells (outside_of start) (outside_of (at_site now (site_of store now.site.moments))) r) (sym is)
+    (unsynced tells log start now store Source s is_new listed same refl)
+closed tells log start now store Sink result s is_new listed (is, same) =
+    subst (λ (r : Status). Runs tells (outside_of start) (outside_of (at_site now (site_of store now.site.moments))) r) (sym is)
+    (unsynced tells log start now store Sink s is_new listed same refl)
+closed tells log start now store Syntax result s is_new listed (is, same) =
+    subst (λ (r : Status). Runs tells (outside_of start) (outside_of (at_site now (site_of store now.site.moments))) r) (sym is)
+    (unsynced tells log start now store Syntax s is_new listed same refl)
+closed tells log start now store Settings result s is_new listed (is, same) =
+    subst (λ (r : Status). Runs tells (outside_of start) (outside_of (at_site now (site_of store now.site.moments))) r) (sym is)
+    (unsynced tells log start now store Settings s is_new listed same refl)
+closed tells log start now store Damaged result s is_new listed (is, same) =
+    subst (λ (r : Status). Runs tells (outside_of start) (outside_of (at_site now (site_of store now.site.moments))) r) (sym is)
+    (unsynced tells log start now store Damaged s is_new listed same refl)
+closed tells log start now store Full result s is_new listed (is, same) =
+    subst (λ (r : Status). Runs tells (outside_of start) (outside_of (at_site now (site_of store now.site.moments))) r) (sym is)
+    (unsynced tells log start now store Full s is_new listed same refl)
+closed tells log start now store Long result s is_new listed (is, same) =
+    subst (λ (r : Status). Runs tells (outside_of start) (outside_of (at_site now (site_of store now.site.moments))) r) (sym is)
+    (unsynced tells log start now store Long s is_new listed same refl)
+closed tells log start now store Door result s is_new listed (is, same) =
+    subst (λ (r : Status). Runs tells (outside_of start) (outside_of (at_site now (site_of store now.site.moments))) r) (sym is)
+    (unsynced tells log start now store Door s is_new listed same refl)
 
 -- the status stays, or the disk failed
-pub same_or_disk : (tells : Bool) (status result : Status) (t : Told) (before now : ℕ)
-    → ClosesBy tells status result t before now
-    → (result ≡ status) ⊎ ((result ≡ Disk) × Rose before now)
-same_or_disk tells Done result t before now (inl done) = inl done.0
-same_or_disk tells Done result t before now (inr failed) = inr failed
-same_or_disk tells NotBuilt result t before now closes = inl closes.0
-same_or_disk tells Memory result t before now closes = inl closes.0
-same_or_disk tells Words result t before now closes = inl closes.0
-same_or_disk tells Disk result t before now closes = inl closes.0
-same_or_disk tells Source result t before now closes = inl closes.0
-same_or_disk tells Sink result t before now closes = inl closes.0
-same_or_disk tells Syntax result t before now closes = inl closes.0
-same_or_disk tells Settings result t before now closes = inl closes.0
-same_or_disk tells Damaged result t before now closes = inl closes.0
-same_or_disk tells Full result t before now closes = inl closes.0
-same_or_disk tells Long result t before now closes = inl closes.0
-same_or_disk tells Door result t before now closes = inl closes.0
+pub same_or_disk : (tells : Bool) (status result : Status) (old new : Shown) → ClosesBy tells status result old new
+    → (result ≡ status) ⊎ ((result ≡ Disk) × Rose old.files.faults new.files.faults)
+same_or_disk tells Done result old new (inl done) = inl done.0
+same_or_disk tells Done result old new (inr failed) = inr (failed.0, failed.1.rose)
+same_or_disk tells NotBuilt result old new closes = inl closes.0
+same_or_disk tells Memory result old new closes = inl closes.0
+same_or_disk tells Words result old new closes = inl closes.0
+same_or_disk tells Disk result old new closes = inl closes.0
+same_or_disk tells Source result old new closes = inl closes.0
+same_or_disk tells Sink result old new closes = inl closes.0
+same_or_disk tells Syntax result old new closes = inl closes.0
+same_or_disk tells Settings result old new closes = inl closes.0
+same_or_disk tells Damaged result old new closes = inl closes.0
+same_or_disk tells Full result old new closes = inl closes.0
+same_or_disk tells Long result old new closes = inl closes.0
+same_or_disk tells Door result old new closes = inl closes.0
 
 -- the same run, over a disk whose counts had risen no further before it was listed
-pub from_before : (tells : Telling) (told : Told) (faults views : ℕ) (old new : Outside) (status : Status)
-    → (IsTrue tells.disk → old.told ≡ told) → faults ≤ old.faults → views ≤ old.views → Runs tells old new status
-    → Runs tells
-    (record {
-      told = told;
-      faults = faults;
-      views = views;
-      whole = old.whole;
-      taken = old.taken;
-      written = old.written;
-      sink_faults = old.sink_faults;
-      moments = old.moments;
-    }) new status
-from_before tells told faults views old new status same later more r = record {
+pub from_before : (tells : Telling) (told : Told) (faults views outs : ℕ) (old new : Outside) (status : Status)
+    → (IsTrue tells.disk → old.told ≡ told) → faults ≤ old.faults → views ≤ old.views → outs ≤ old.outs
+    → Runs tells old new status
+    → Runs tells (record old { told = told; faults = faults; views = views; outs = outs }) new status
+from_before tells told faults views outs old new status same later more further r = record {
   opening = r.opening;
   talk = r.talk;
   closing = r.closing;
@@ -322,66 +371,53 @@ from_before tells told faults views old new status same later more r = record {
   closes = r.closes;
   most = r.most;
   legal = r.legal;
-  image = r.image;
-  from = omega (arith, r.from, later);
-  from_views = omega (arith, r.from_views, more);
+  why = r.why;
+  left = r.left;
+  crash = λ t. subst (λ (d : Told). CrashesBetween d new.told r.opening (all_exchanges r.talk)) (same t) (r.crash t);
+  closed = r.closed;
+  own = r.own;
+  from = (omega (arith, r.from.0, later), omega (arith, r.from.1, more), omega (arith, r.from.2, further));
   faults = r.faults;
   views = r.views;
+  outs = r.outs;
 }
 
 Rose-on : (first before now last : ℕ) → first ≤ before → Rose before now → now ≤ last → Rose first last
 Rose-on first before now last early rose late = omega arith
 
 -- what makes a run end by the disk
-pub disk_rose : (tells : Bool) (status result : Status) (t : Told)
-    (first before now last views_first views_before views_now : ℕ)
-    → ClosesBy tells status result t now last → (status ≡ Disk → Rose before now ⊎ Rose views_before views_now)
-    → first ≤ before → before ≤ now → now ≤ last → views_first ≡ views_before
-    → result ≡ Disk → Rose first last ⊎ Rose views_first views_now
-disk_rose tells status result t first before now last views_first views_before views_now closes cause
-    early middle late same is =
-    go (same_or_disk tells status result t now last closes)
+pub disk_rose : (tells : Bool) (status result : Status) (first : ℕ) (before : Shown) (now last : Shown) (views_first : ℕ)
+    → ClosesBy tells status result now last
+    → (status ≡ Disk → Rose before.files.faults now.files.faults ⊎ Rose before.files.fallible_views now.files.fallible_views)
+    → first ≤ before.files.faults → before.files.faults ≤ now.files.faults → now.files.faults ≤ last.files.faults
+    → views_first ≡ before.files.fallible_views
+    → result ≡ Disk → Rose first last.files.faults ⊎ Rose views_first now.files.fallible_views
+disk_rose tells status result first before now last views_first closes cause early middle late same is =
+    go (same_or_disk tells status result now last closes)
   where
-    from_talk : Rose before now ⊎ Rose views_before views_now → Rose first last ⊎ Rose views_first views_now
-    from_talk (inl rose) = inl (Rose-on first before now last early rose late)
+    from_talk : Rose before.files.faults now.files.faults ⊎ Rose before.files.fallible_views now.files.fallible_views
+        → Rose first last.files.faults ⊎ Rose views_first now.files.fallible_views
+    from_talk (inl rose) = inl (Rose-on first before.files.faults now.files.faults last.files.faults early rose late)
     from_talk (inr rose) = inr (rw same rose)
 
-    go : (result ≡ status) ⊎ ((result ≡ Disk) × Rose now last) → Rose first last ⊎ Rose views_first views_now
+    go : (result ≡ status) ⊎ ((result ≡ Disk) × Rose now.files.faults last.files.faults)
+        → Rose first last.files.faults ⊎ Rose views_first now.files.fallible_views
     go (inl e) = from_talk (cause (sym e ∙ is))
     go (inr failed) = inl (omega (arith, failed.1, early, middle))
 
-pub built : (tells : Bool) (status result : Status) (t : Told) (before now : ℕ)
-    → ClosesBy tells status result t before now → IsBuilt status → IsBuilt result
-built tells status result t before now closes is = go (same_or_disk tells status result t before now closes)
+pub built : (tells : Bool) (status result : Status) (old new : Shown) → ClosesBy tells status result old new
+    → IsBuilt status → IsBuilt result
+built tells status result old new closes is = go (same_or_disk tells status result old new closes)
   where
-    go : (result ≡ status) ⊎ ((result ≡ Disk) × Rose before now) → IsBuilt result
+    go : (result ≡ status) ⊎ ((result ≡ Disk) × Rose old.files.faults new.files.faults) → IsBuilt result
     go (inl e) = subst (λ (s : Status). IsBuilt s) (sym e) is
     go (inr failed) = subst (λ (s : Status). IsBuilt s) (sym failed.0) tt
 
-pub was_source : (tells : Bool) (status result : Status) (t : Told) (before now : ℕ)
-    → ClosesBy tells status result t before now → result ≡ Source → status ≡ Source
-was_source tells status result t before now closes is = go (same_or_disk tells status result t before now closes)
+-- a status but the disk's was so before the sync
+pub was_so : (other : Status) (tells : Bool) (status result : Status) (old new : Shown)
+    → ClosesBy tells status result old new → (Disk ≡ other → ⊥) → result ≡ other → status ≡ other
+was_so other tells status result old new closes apart is = go (same_or_disk tells status result old new closes)
   where
-    go : (result ≡ status) ⊎ ((result ≡ Disk) × Rose before now) → status ≡ Source
+    go : (result ≡ status) ⊎ ((result ≡ Disk) × Rose old.files.faults new.files.faults) → status ≡ other
     go (inl e) = sym e ∙ is
-    go (inr failed) = absurd (cc (failed.0, is))
-
-pub was_sink : (tells : Bool) (status result : Status) (t : Told) (before now : ℕ)
-    → ClosesBy tells status result t before now → result ≡ Sink → status ≡ Sink
-was_sink tells status result t before now closes is = go (same_or_disk tells status result t before now closes)
-  where
-    go : (result ≡ status) ⊎ ((result ≡ Disk) × Rose before now) → status ≡ Sink
-    go (inl e) = sym e ∙ is
-    go (inr failed) = absurd (cc (failed.0, is))
-
--- a talk that ended so left the store standing
-pub stood : (tells : Telling) (start now : Scene) (status : Status) → Stopped tells start now status
-    → IsSyncedAt status → IsTrue tells.disk → Stands now.site.told now.site.catalog now.site.index
-stood tells start now status s is t = go is (s.ends t)
-  where
-    go : IsSyncedAt status → EndsAt status now.site (steps_of (all_exchanges s.talk))
-        → Stands now.site.told now.site.catalog now.site.index
-    go (inl e) ends = let (log, leads, holds) =
-        subst (λ (st : Status). EndsAt st now.site (steps_of (all_exchanges s.talk))) e ends in (log, holds)
-    go (inr e) ends = let (log, leads, holds) =
-        subst (λ (st : Status). EndsAt st now.site (steps_of (all_exchanges s.talk))) e ends in (log, holds)
+    go (inr failed) = absurd (apart (sym failed.0 ∙ is))

@@ -1,6 +1,5 @@
 pub mod ClosingLaws
+pub mod OpeningLaws
 pub mod RunLaws
 pub mod ServingLaws
-pub mod ShelfLaws
-pub mod StoreLaws
 pub mod TalkingLaws

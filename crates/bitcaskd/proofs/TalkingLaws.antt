@@ -1,10 +1,10 @@
 -- How a run comes from one request to the next, and to its end.
-use Rattle.std.proofs.Common.{◌≡◌, ◌∙◌, ℕ, ◌+◌, ◌<◌, ◌≤◌, List, [], ◌∷◌, ◌++◌, length, map, drop, take, fold, sum_by, Bool, true, false, Option, Some, None, MatchOption, is_some, not, refl, sym, ap, subst, arith, inl, inr, append_assoc, IsTrue}
+use Rattle.std.proofs.Common.{◌≡◌, ◌∙◌, ◌⊎◌, ℕ, ◌+◌, ◌<◌, ◌≤◌, List, [], ◌∷◌, ◌++◌, length, map, drop, take, fold, sum_by, Bool, true, false, Option, Some, None, MatchOption, is_some, not, refl, sym, ap, subst, arith, inl, inr, append_assoc, IsTrue}
 use Rattle.std.specs.List.{AllByRecursion, flat_map}
 use Rattle.std.proofs.lemmas.List.{append-nil, length-append}
 use Rattle.std.proofs.lemmas.List.Concat.{flat_map-append}
 use Rattle.bk_base.specs.declared.numbers.Moment.{Moment}
-use Rattle.bk_base.specs.declared.calls.Entry.{Entry}
+use Rattle.bk_base.specs.declared.histories.Opening.{Opening}
 use Rattle.bk_base.specs.declared.histories.Step.{Step}
 use Rattle.bk_base.specs.declared.requests.Reply.{Reply}
 use Rattle.bk_base.specs.declared.requests.Request.{Request}
@@ -13,30 +13,36 @@ use Rattle.bk_base.specs.declared.statuses.Status.{Status}
 use Rattle.bk_base.specs.declared.statuses.Status.TheVariants.{Done, Memory, Words, Disk, Source, Sink, Syntax, Settings, Damaged, Full, Long, NotBuilt, Door}
 use Rattle.bk_base.specs.declared.writes.Write.{Write}
 use Rattle.bk_disk.specs.Causes.{Rose, most}
+use Rattle.bk_disk.specs.Crashes.{fronts_at}
+use Rattle.bk_disk.specs.Told.{Front, Table, Told, clock}
+use Rattle.bk_image.specs.Prefix.{MeetsEither}
 use Rattle.bk_disk.specs.Streams.{Takes, first_moment, later_moments}
-use Rattle.bk_laws.specs.History.{State, IsReply, IsLegal, after, state_of, entries}
+use Rattle.bk_laws.specs.History.{log_of}
 use Rattle.bk_laws.specs.Session.{Exchange, IsExchange, Transcript, IsTranscript, all_exchanges, requests_of, replies_of, steps_of, moments_of, IsOffered, NoneOffered}
 use Rattle.bk_laws.specs.Wire.{Fits, request_text, reply_text, StandsIn, IsBad, IsPartial}
 use Rattle.std.proofs.Math.Seq.{drop-drop}
 use Rattle.std.proofs.lemmas.List.{take-append-drop}
+use Rattle.std.proofs.lemmas.Bool.{cases_lt}
 use Rattle.std.proofs.lemmas.Grind.{common_steps}
 use Rattle.bk_wire.specs.Stream.{Stream, taken}
 use Rattle.bk_wire.proofs.RequestLaws.{none_in_partial, same_standing, some_text}
 use Rattle.bitcaskd.specs.declared.input.Input.{Input}
 use Rattle.bitcaskd.specs.declared.input.Input.TheVariants.{Taken, Ended, Long as took_most, Failed, Memory as no_memory}
 use Rattle.bitcaskd.specs.declared.refusals.Refusal.{Refusal}
-use Rattle.bitcaskd.specs.declared.refusals.Refusal.TheVariants.{Memory as refused_memory, Disk as refused_disk}
+use Rattle.bitcaskd.specs.declared.refusals.Refusal.TheVariants.{Memory as refused_memory, Disk as refused_disk, Full as refused_full, Damaged as refused_damaged}
 use Rattle.bk_disk.specs.Counts.{Counted}
 use Rattle.bk_disk.proofs.Counts.{counted_exactly, counted_on}
 use Rattle.bk_disk.specs.Streams.{Wrote}
-use Rattle.bitcaskd.specs.Run.{Telling, telling, Reads, Writes, WrittenPart, TakesMost, most_taken, faults_in, views_in, IsServed, ReadsAll}
-use Rattle.bitcaskd.specs.Serving.{Site, Ticks, plain, Leads, Answered, Refused}
-use Rattle.bitcaskd.specs.Store.{Holds}
-use Rattle.bitcaskd.specs.Talking.{Scene, LeadTo, StandsAfter, LeftAfter, CountedOver, SoFar, status_of, EndsAt, Stopped, MovesOut, FailsOut, WritesSome, Flushed, Inlet, TakesPiece, Gives, Asks, Turns, after_input, StopsAtBad, work_left, scene_of}
-use Rattle.bitcaskd.proofs.StoreLaws.{image_of}
+use Rattle.bk_store.specs.Events.{IsStepOf}
+use Rattle.bk_store.specs.History.{kept_of}
+use Rattle.bk_store.specs.Shown.{Shown}
+use Rattle.bk_store.specs.Standing.{StandsFor}
+use Rattle.bitcaskd.specs.Run.{Telling, telling, Reads, Writes, WrittenPart, TakesMost, most_taken, faults_in, views_in, outs_in, IsServed, IsLicensed, IsLater, CrashesBetween, ReadsAll, tried_by}
+use Rattle.bitcaskd.specs.Serving.{Advances, Answered, IsDueTo, IsOwn, Refused, Site, Ticks, tries}
+use Rattle.bitcaskd.specs.Talking.{Scene, CountedOver, SoFar, status_of, EndsAt, Stopped, MovesOut, FailsOut, WritesSome, Flushed, Inlet, TakesPiece, Gives, Asks, Turns, after_input, StopsAtBad, work_left, scene_of}
 
 -- lists that gain a last item
-AllByRecursion-snoc : {X : Type 0} (P : X → Type 0) (xs : List X) (x : X) → AllByRecursion P xs → P x
+pub AllByRecursion-snoc : {X : Type 0} (P : X → Type 0) (xs : List X) (x : X) → AllByRecursion P xs → P x
     → AllByRecursion P (xs ++ x ∷ [])
 AllByRecursion-snoc P [] x all here = (here, all)
 AllByRecursion-snoc P (y ∷ ys) x all here = (all.0, AllByRecursion-snoc P ys x all.1 here)
@@ -56,39 +62,22 @@ sum_by-snoc {X} f xs x = go 0 xs
     go a [] = refl
     go a (y ∷ ys) = go (a + f y) ys
 
--- what one more step adds
-IsLegal-snoc : (s : State) (es : List Entry) (e : Entry) → IsLegal 0 s es
-    → IsReply 0 (state_of s es) e.caller e.call e.reply → IsLegal 0 s (es ++ e ∷ [])
-IsLegal-snoc s [] e legal reply = (reply, legal)
-IsLegal-snoc s (f ∷ fs) e legal reply = (legal.0, IsLegal-snoc (after s f) fs e legal.1 reply)
-
-state_of-snoc : (s : State) (es : List Entry) (e : Entry) → state_of s (es ++ e ∷ []) ≡ after (state_of s es) e
-state_of-snoc s [] e = refl
-state_of-snoc s (f ∷ fs) e = state_of-snoc (after s f) fs e
-
-pub leads_on : (steps : List Step) (log : List Write) (step : Step) (later : List Write)
-    → LeadTo steps log → Leads log step later → LeadTo (steps ++ step ∷ []) later
-leads_on steps log step later so_far next =
-    let more = map-snoc (λ (s : Step). s.entry) steps step in
-    record {
-      legal = subst (λ (es : List Entry). IsLegal 0 (plain []) es) (sym more)
-          (IsLegal-snoc (plain []) (entries steps) step.entry so_far.legal
-          (subst (λ (s : State). IsReply 0 s step.entry.caller step.entry.call step.entry.reply)
-          (sym so_far.state) next.legal));
-      state = ap (λ (es : List Entry). state_of (plain []) es) more
-          ∙ state_of-snoc (plain []) (entries steps) step.entry
-          ∙ ap (λ (s : State). after s step.entry) so_far.state ∙ next.state;
-    }
-
-pub counts_on : (old now new : Site) (steps : List Step) (step : Step) → CountedOver old now steps
-    → Counted false now.faults step.faults new.faults → Counted false now.views step.views new.views
-    → CountedOver old new (steps ++ step ∷ [])
-counts_on old now new steps step so_far faults views = record {
-  faults = subst (λ (n : ℕ). Counted false old.faults n new.faults)
+-- the counts of one more step
+pub counts_on : (tells : Bool) (old now new : Shown) (steps : List Step) (step : Step) → CountedOver old now steps
+    → IsStepOf tells now new step → CountedOver old new (steps ++ step ∷ [])
+counts_on tells old now new steps step so_far is = record {
+  faults = subst (λ (n : ℕ). Counted false old.files.faults n new.files.faults)
       (sym (sum_by-snoc (λ (s : Step). s.faults) steps step))
-      (counted_on false false old.faults (faults_in steps) now.faults step.faults new.faults so_far.faults faults);
-  views = subst (λ (n : ℕ). Counted false old.views n new.views) (sym (sum_by-snoc (λ (s : Step). s.views) steps step))
-      (counted_on false false old.views (views_in steps) now.views step.views new.views so_far.views views);
+      (counted_on false false old.files.faults (faults_in steps) now.files.faults step.faults new.files.faults
+      so_far.faults is.faults);
+  views = subst (λ (n : ℕ). Counted false old.files.fallible_views n new.files.fallible_views)
+      (sym (sum_by-snoc (λ (s : Step). s.views) steps step))
+      (counted_on false false old.files.fallible_views (views_in steps) now.files.fallible_views step.views
+      new.files.fallible_views so_far.views is.views);
+  outs = subst (λ (n : ℕ). Counted false old.files.fallible_outs n new.files.fallible_outs)
+      (sym (sum_by-snoc (λ (s : Step). s.outs) steps step))
+      (counted_on false false old.files.fallible_outs (outs_in steps) now.files.fallible_outs step.outs
+      new.files.fallible_outs so_far.outs is.outs);
 }
 
 Ticks-snoc : (ms : List Moment) (m : Moment) (a b c : List Moment) → Ticks ms a b → Ticks (m ∷ []) b c
@@ -136,15 +125,68 @@ reads_on input all rest text more unread read stands =
 abbrev pub turn_of : Request → Moment → Step → List Reply → Exchange
 turn_of request now step replies = record { request = request; now = now; steps = step ∷ []; replies = replies }
 
+-- ---- crashes
+
+first : {P Q : Type 0} → P ⊎ P → P ⊎ Q
+first (inl p) = inl p
+first (inr p) = inl p
+
+-- what a crash meets where nothing is tried, it meets where something is
+more_tried : (log : List Write) (kept : ℕ) (fronts : Table Front) (rest : List Exchange) (t : Exchange)
+    → MeetsEither log kept [] (tried_by rest log) fronts → MeetsEither log kept [] (tried_by (rest ++ t ∷ []) log) fronts
+more_tried log kept fronts [] t meets image may chance = first (meets image may chance)
+more_tried log kept fronts (r ∷ rs) t meets image may chance = meets image may chance
+
+-- one more step, which ended later
+later_on : (k : ℕ) (rest : List Exchange) (request : Request) (now : Moment) (step : Step) (replies : List Reply)
+    → IsLater k step → AllByRecursion (IsLater k) (steps_of rest)
+    → AllByRecursion (IsLater k) (steps_of (rest ++ turn_of request now step replies ∷ []))
+later_on k rest request now step replies is all =
+    subst (λ (steps : List Step). AllByRecursion (IsLater k) steps)
+    (sym (flat_map-snoc (λ (t : Exchange). t.steps) rest (turn_of request now step replies)))
+    (AllByRecursion-snoc (IsLater k) (steps_of rest) step all is)
+
+-- The moments of one more request, which come behind those before it.
+pub crashes_on : (start : Told) (old new : Shown) (o : Opening) (turns : List Exchange) (request : Request) (now : Moment)
+    (step : Step) (replies : List Reply) (left : List Write)
+    → CrashesBetween start old.files.told o turns
+    → Advances (tries request now (log_of o (steps_of turns))) old new step o (steps_of turns) left
+    → CrashesBetween start new.files.told o (turns ++ turn_of request now step replies ∷ [])
+crashes_on start old new o turns request now step replies left so a k low high =
+    let t : Exchange = turn_of request now step replies in
+    elim (cases_lt k (clock old.files.told)) [
+      | inl lt ↦
+          let c = so k low lt in
+          record {
+            done = c.done;
+            rest = c.rest ++ t ∷ [];
+            are = sym (append_assoc c.done c.rest (t ∷ [])) ∙ ap (λ (l : List Exchange). l ++ t ∷ []) c.are;
+            later = later_on k c.rest request now step replies (clock new.files.told, a.at, high) c.later;
+            meets = subst
+                (λ (f : Table Front). MeetsEither (log_of o (steps_of c.done)) (kept_of o (steps_of c.done)) []
+                (tried_by (c.rest ++ t ∷ []) (log_of o (steps_of c.done))) f)
+                (sym (a.past.same k (omega (arith, lt))))
+                (more_tried (log_of o (steps_of c.done)) (kept_of o (steps_of c.done)) (fronts_at old.files.told k) c.rest t
+                c.meets);
+          }
+      | inr ge ↦ record {
+        done = turns;
+        rest = t ∷ [];
+        are = refl;
+        later = ((clock new.files.told, a.at, high), tt);
+        meets = a.crash k ge (omega (arith, high));
+      }
+    ]
+
 -- One more request was served, and its reply gathered.
-pub goes_on : (tells : Telling) (start old : Scene) (site : Site) (before after : Stream)
+pub goes_on : (tells : Telling) (o : Opening) (start old : Scene) (site : Site) (before after : Stream)
     (gathered more : List ℕ) (served : List Exchange) (request : Request)
-    → SoFar tells start old before gathered served → StandsIn before.rest request after.rest
+    → SoFar tells o start old before gathered served → StandsIn before.rest request after.rest
     → taken before ≡ taken after
     → (a : Answered tells.disk tells.clock request old.site site gathered more)
-    → SoFar tells start (at_site old site) after more
+    → SoFar tells o start (at_site old site) after more
     (served ++ turn_of request a.served.now a.served.step (a.reply ∷ []) ∷ [])
-goes_on tells start old site before after gathered more served request so stands same a =
+goes_on tells o start old site before after gathered more served request so stands same a =
     let turn = turn_of request a.served.now a.served.step (a.reply ∷ []) in
     record {
       each = AllByRecursion-snoc (IsExchange 0) served turn so.each
@@ -167,26 +209,27 @@ goes_on tells start old site before after gathered more served request so stands
           (sym (map-snoc (λ (t : Exchange). t.now) served turn))
           (Ticks-snoc (moments_of served) a.served.now start.site.moments old.site.moments
           site.moments (so.ticks t) (a.served.ticks t));
-      stands = λ t. let (log, leads, holds) = so.stands t in let (later, next, held) = a.served.goes t log holds in (
-        later,
-        subst (λ (steps : List Step). LeadTo steps later) (sym (flat_map-snoc (λ (t : Exchange). t.steps) served turn))
-            (leads_on (steps_of served) log a.served.step later leads next),
-        held,
-      );
-      counts = subst (λ (steps : List Step). CountedOver start.site site steps)
+      own = subst (AllByRecursion IsOwn) (sym (flat_map-snoc (λ (t : Exchange). t.steps) served turn))
+          (AllByRecursion-snoc IsOwn (steps_of served) a.served.step so.own a.served.own);
+      stands = λ t. subst (λ (steps : List Step). StandsFor site.store o steps [])
           (sym (flat_map-snoc (λ (t : Exchange). t.steps) served turn))
-          (counts_on start.site old.site site (steps_of served) a.served.step so.counts
-          a.served.counts.faults a.served.counts.views);
+          (a.served.goes t o (steps_of served) (so.stands t)).stands;
+      crash = λ t. crashes_on start.site.store.files.told old.site.store site.store o served request a.served.now
+          a.served.step (a.reply ∷ []) [] (so.crash t) (a.served.goes t o (steps_of served) (so.stands t));
+      counts = subst (λ (steps : List Step). CountedOver start.site.store site.store steps)
+          (sym (flat_map-snoc (λ (t : Exchange). t.steps) served turn))
+          (counts_on tells.disk start.site.store old.site.store site.store (steps_of served) a.served.step so.counts
+          a.served.is_step);
       sink = so.sink;
     }
 
 -- A part of what was gathered went out.
-pub moves_out : (tells : Telling) (start now : Scene) (stream : Stream)
+pub moves_out : (tells : Telling) (o : Opening) (start now : Scene) (stream : Stream)
     (gathered left written : List ℕ) (faults : ℕ) (served : List Exchange)
-    → SoFar tells start now stream gathered served
+    → SoFar tells o start now stream gathered served
     → MovesOut tells.sink now.written gathered written left → now.sink_faults ≤ faults
-    → SoFar tells start (with_sink now written faults) stream left served
-moves_out tells start now stream gathered left written faults served so moved later = record {
+    → SoFar tells o start (with_sink now written faults) stream left served
+moves_out tells o start now stream gathered left written faults served so moved later = record {
   each = so.each;
   whole = so.whole;
   read = so.read;
@@ -197,19 +240,21 @@ moves_out tells start now stream gathered left written faults served so moved la
     append_assoc out part left ∙ ap (λ (l : List ℕ). out ++ l) (sym split) ∙ made,
   );
   ticks = so.ticks;
+  own = so.own;
   stands = so.stands;
+  crash = so.crash;
   counts = so.counts;
   sink = omega (arith, so.sink, later);
 }
 
 -- One more piece of the input was taken.
-pub takes_on : (tells : Telling) (start now : Scene) (old new : Inlet) (gathered : List ℕ)
+pub takes_on : (tells : Telling) (o : Opening) (start now : Scene) (old new : Inlet) (gathered : List ℕ)
     (served : List Exchange) (piece : List ℕ)
-    → SoFar tells start now old.stream gathered served → now.whole ≡ old.whole → now.taken ≡ old.taken
+    → SoFar tells o start now old.stream gathered served → now.whole ≡ old.whole → now.taken ≡ old.taken
     → TakesPiece tells.source old new piece
     → (IsTrue tells.source → new.whole ≡ old.whole)
-    → SoFar tells start (with_source now new.whole new.taken) new.stream gathered served
-takes_on tells start now old new gathered served piece so whole taken_is took same = record {
+    → SoFar tells o start (with_source now new.whole new.taken) new.stream gathered served
+takes_on tells o start now old new gathered served piece so whole taken_is took same = record {
   each = so.each;
   whole = λ t. same t ∙ sym whole ∙ so.whole t;
   read = λ t. so.read t ∙ ap (λ (l : List ℕ). (requests_of served ++ old.stream.rest) ++ l)
@@ -221,7 +266,9 @@ takes_on tells start now old new gathered served piece so whole taken_is took sa
   taken = λ t. took.moved t ∙ ap (λ n. n + length piece) (sym taken_is ∙ so.taken t) ∙ go;
   made = so.made;
   ticks = so.ticks;
+  own = so.own;
   stands = so.stands;
+  crash = so.crash;
   counts = so.counts;
   sink = so.sink;
 }
@@ -246,31 +293,23 @@ all_served Source served = refl
 all_served Sink served = refl
 all_served Syntax served = refl
 all_served Settings served = refl
-all_served Damaged served = refl
-all_served Full served = refl
+all_served Damaged served = tt
+all_served Full served = tt
 all_served Long served = refl
 all_served NotBuilt served = refl
 all_served Door served = refl
 
--- the files after a run that stood
-pub left_standing : (site : Site) (steps : List Step) → StandsAfter site steps → LeftAfter site steps
-left_standing site steps stood = let (log, leads, holds) =
-    stood in (log, [], leads, omega arith, image_of site.told site.catalog site.index log [] holds)
-
-ends_standing : (status : Status) (site : Site) (steps : List Step) → StandsAfter site steps → EndsAt status site steps
-ends_standing Done site steps stood = stood
-ends_standing NotBuilt site steps stood = stood
-ends_standing Memory site steps stood = left_standing site steps stood
-ends_standing Words site steps stood = stood
-ends_standing Disk site steps stood = left_standing site steps stood
-ends_standing Source site steps stood = stood
-ends_standing Sink site steps stood = stood
-ends_standing Syntax site steps stood = stood
-ends_standing Settings site steps stood = stood
-ends_standing Damaged site steps stood = stood
-ends_standing Full site steps stood = stood
-ends_standing Long site steps stood = stood
-ends_standing Door site steps stood = stood
+-- a run whose requests were all served
+ends_standing : (status : Status) (o : Opening) (start now : Shown) (served : List Exchange)
+    → StandsFor now o (steps_of served) [] → CrashesBetween start.files.told now.files.told o served
+    → IsLicensed status o (steps_of served) → EndsAt status o start now (whole_talk served)
+ends_standing status o start now served stands crash why = record {
+  tried = [];
+  by = inl refl;
+  stands = subst (λ (ts : List Exchange). StandsFor now o (steps_of ts) []) (sym (append-nil served)) stands;
+  crash = subst (λ (ts : List Exchange). CrashesBetween start.files.told now.files.told o ts) (sym (append-nil served)) crash;
+  why = why;
+}
 
 writes_whole : (status : Status) (before now : ℕ) (out replies : List ℕ) → out ≡ replies
     → Writes status before now out replies
@@ -289,13 +328,14 @@ writes_whole Full before now out replies e = inl e
 writes_whole Door before now out replies e = inl e
 
 -- The run ends with all replies written, by a status whose part on the input holds.
-pub ends : (tells : Telling) (start now : Scene) (stream : Stream) (whole : List ℕ) (took : ℕ)
+pub ends : (tells : Telling) (o : Opening) (start now : Scene) (stream : Stream) (whole : List ℕ) (took : ℕ)
     (served : List Exchange) (status : Status)
-    → SoFar tells start now stream [] served
+    → SoFar tells o start now stream [] served
     → (IsTrue tells.source → whole ≡ now.whole)
     → (IsTrue tells.source → Reads status (drop start.taken start.whole) (drop took whole) (whole_talk served))
-    → TakesMost status tells.source start.taken took → Stopped tells start (with_source now whole took) status
-ends tells start now stream whole took served status so same reads most = record {
+    → TakesMost status tells.source start.taken took → IsLicensed status o (steps_of served)
+    → Stopped tells o start (with_source now whole took) status
+ends tells o start now stream whole took served status so same reads most why = record {
   talk = whole_talk served;
   said = is_whole served so.each;
   served = all_served status served;
@@ -311,18 +351,18 @@ ends tells start now stream whole took served status so same reads most = record
       subst (λ (ts : List Exchange). Ticks (moments_of ts) start.site.moments now.site.moments)
       (sym (append-nil served)) (so.ticks t);
   most = most;
-  ends = λ t. subst (λ (ts : List Exchange). EndsAt status now.site (steps_of ts))
-      (sym (append-nil served)) (ends_standing status now.site (steps_of served) (so.stands t));
-  counts = subst (λ (ts : List Exchange). CountedOver start.site now.site (steps_of ts))
+  own = subst (λ (ts : List Exchange). AllByRecursion IsOwn (steps_of ts)) (sym (append-nil served)) so.own;
+  ends = λ t. ends_standing status o start.site.store now.site.store served (so.stands t) (so.crash t) why;
+  counts = subst (λ (ts : List Exchange). CountedOver start.site.store now.site.store (steps_of ts))
       (sym (append-nil served)) so.counts;
 }
 
 -- what the source held, where some of it is left
-pub some_left : (tells : Telling) (start now : Scene) (stream : Stream) (gathered : List ℕ)
-    (served : List Exchange) → SoFar tells start now stream gathered served
+pub some_left : (tells : Telling) (o : Opening) (start now : Scene) (stream : Stream) (gathered : List ℕ)
+    (served : List Exchange) → SoFar tells o start now stream gathered served
     → IsTrue tells.source → (rest : List ℕ)
     × (drop start.taken start.whole ≡ requests_of (all_exchanges (whole_talk served)) ++ rest)
-some_left tells start now stream gathered served so t = (
+some_left tells o start now stream gathered served so t = (
   stream.rest ++ drop now.taken now.whole,
   so.read t ∙ append_assoc (requests_of served) stream.rest (drop now.taken now.whole)
       ∙ ap (λ (ts : List Exchange). requests_of ts ++ (stream.rest ++ drop now.taken now.whole))
@@ -333,17 +373,17 @@ Rose-from : (start before now : ℕ) → start ≤ before → Rose before now �
 Rose-from start before now later rose = omega arith
 
 -- The sink failed, and the run ends by it.
-pub sink_ends : (tells : Telling) (start now : Scene) (stream : Stream) (gathered written : List ℕ)
+pub sink_ends : (tells : Telling) (o : Opening) (start now : Scene) (stream : Stream) (gathered written : List ℕ)
     (faults : ℕ) (served : List Exchange)
-    → SoFar tells start now stream gathered served
+    → SoFar tells o start now stream gathered served
     → FailsOut tells.sink now.written gathered written now.sink_faults faults
-    → Stopped tells start (with_sink now written faults) Sink
-sink_ends tells start now stream gathered written faults served so failed = record {
+    → Stopped tells o start (with_sink now written faults) Sink
+sink_ends tells o start now stream gathered written faults served so failed = record {
   talk = whole_talk served;
   said = is_whole served so.each;
   served = refl;
   whole = so.whole;
-  reads = some_left tells start now stream gathered served so;
+  reads = some_left tells o start now stream gathered served so;
   writes = λ t. let (out, was, made) = so.made t in let (part, rest, is, split) = failed.0 t in (
     out ++ part,
     is ∙ ap (λ (l : List ℕ). l ++ part) was ∙ append_assoc start.written out part,
@@ -358,9 +398,9 @@ sink_ends tells start now stream gathered written faults served so failed = reco
       subst (λ (ts : List Exchange). Ticks (moments_of ts) start.site.moments now.site.moments)
       (sym (append-nil served)) (so.ticks t);
   most = tt;
-  ends = λ t. subst (λ (ts : List Exchange). StandsAfter now.site (steps_of ts))
-      (sym (append-nil served)) (so.stands t);
-  counts = subst (λ (ts : List Exchange). CountedOver start.site now.site (steps_of ts))
+  own = subst (λ (ts : List Exchange). AllByRecursion IsOwn (steps_of ts)) (sym (append-nil served)) so.own;
+  ends = λ t. ends_standing Sink o start.site.store now.site.store served (so.stands t) (so.crash t) tt;
+  counts = subst (λ (ts : List Exchange). CountedOver start.site.store now.site.store (steps_of ts))
       (sym (append-nil served)) so.counts;
 }
 
@@ -387,14 +427,21 @@ last_written tells start before gathered now start_faults faults_before faults_n
       ),
     )
 
--- A request was refused, and the run ends by it.
-refused_ends : (tells : Telling) (start old : Scene) (site : Site) (before after : Stream)
+-- A request was refused, and the run ends by it, with a status that allows it.
+refused_ends : (status : Status) (refusal : Refusal) (tells : Telling) (o : Opening) (start old : Scene) (site : Site)
+    (before after : Stream)
     (gathered written : List ℕ) (faults : ℕ) (served : List Exchange) (request : Request)
-    → SoFar tells start old before gathered served → StandsIn before.rest request after.rest
-    → IsOffered request → (r : Refused tells.disk tells.clock request old.site site)
+    → SoFar tells o start old before gathered served → StandsIn before.rest request after.rest
+    → IsOffered request → (r : Refused tells.disk tells.clock refusal request old.site site)
     → Flushed tells.sink old.written written gathered old.sink_faults faults
-    → Stopped tells start (with_sink (at_site old site) written faults) Memory
-refused_ends tells start old site before after gathered written faults served request so stands offered r flushed =
+    → ((talk : Transcript) → IsServed status talk)
+    → ((input left : List ℕ) (talk : Transcript) → Reads Memory input left talk → Reads status input left talk)
+    → ((a b : ℕ) (out replies : List ℕ) → Writes Memory a b out replies → Writes status a b out replies)
+    → ((a b : ℕ) → TakesMost status tells.source a b)
+    → ((h : List Step) → IsDueTo refusal o h → IsLicensed status o h)
+    → Stopped tells o start (with_sink (at_site old site) written faults) status
+refused_ends status refusal tells o start old site before after gathered written faults served request so stands
+    offered r flushed may_cut reads writes most due =
     let turn = turn_of request r.now r.step [] in
     record {
       talk = record { served = served; cut = turn ∷ [] };
@@ -405,90 +452,86 @@ refused_ends tells start old site before after gathered written faults served re
         one =
             omega arith;
       };
-      served = tt;
+      served = may_cut (record { served = served; cut = turn ∷ [] });
       whole = so.whole;
-      reads = λ t. (
-        after.rest ++ drop old.taken old.whole,
-        reads_on (drop start.taken start.whole) (requests_of served) before.rest
-            (request_text request) after.rest (drop old.taken old.whole) (so.read t) stands.whole
-            ∙ append_assoc (requests_of served ++ request_text request) after.rest (drop old.taken old.whole)
-            ∙ ap (λ (q : List ℕ). q ++ (after.rest ++ drop old.taken old.whole))
-            (sym (flat_map-snoc (λ (t : Exchange). request_text t.request) served turn)),
-      );
-      writes = λ t. last_written tells.sink start.written old.written gathered written
-          start.sink_faults old.sink_faults faults (replies_of served) (so.made t) so.sink t flushed;
+      reads = λ t. reads (drop start.taken start.whole) (drop old.taken old.whole)
+          (record { served = served; cut = turn ∷ [] }) (
+            after.rest ++ drop old.taken old.whole,
+            reads_on (drop start.taken start.whole) (requests_of served) before.rest
+                (request_text request) after.rest (drop old.taken old.whole) (so.read t) stands.whole
+                ∙ append_assoc (requests_of served ++ request_text request) after.rest (drop old.taken old.whole)
+                ∙ ap (λ (q : List ℕ). q ++ (after.rest ++ drop old.taken old.whole))
+                (sym (flat_map-snoc (λ (t : Exchange). request_text t.request) served turn)),
+          );
+      writes = λ t. let (out, is, wrote) = last_written tells.sink start.written old.written gathered written
+          start.sink_faults old.sink_faults faults (replies_of served) (so.made t) so.sink t flushed in
+          (out, is, writes start.sink_faults faults out (replies_of served) wrote);
       ticks = λ t. subst (λ (ms : List Moment). Ticks ms start.site.moments site.moments)
           (sym (map-snoc (λ (t : Exchange). t.now) served turn))
           (Ticks-snoc (moments_of served) r.now start.site.moments old.site.moments site.moments
           (so.ticks t) (r.ticks t));
-      most = tt;
-      ends = λ t. let (log, leads, holds) = so.stands t in let (later, tried, next, few, image) =
-          r.leaves t log holds in (
-            later,
-            tried,
-            subst (λ (steps : List Step). LeadTo steps later)
-                (sym (flat_map-snoc (λ (t : Exchange). t.steps) served turn))
-                (leads_on (steps_of served) log r.step later leads next),
-            few,
-            image,
-          );
-      counts = subst (λ (steps : List Step). CountedOver start.site site steps)
+      most = most start.taken old.taken;
+      own = subst (AllByRecursion IsOwn) (sym (flat_map-snoc (λ (t : Exchange). t.steps) served turn))
+          (AllByRecursion-snoc IsOwn (steps_of served) r.step so.own r.own);
+      ends = λ t. let (why, (left, by, a)) = r.leaves t o (steps_of served) (so.stands t) in record {
+        tried = left;
+        by = by;
+        stands = subst (λ (steps : List Step). StandsFor site.store o steps left)
+            (sym (flat_map-snoc (λ (t : Exchange). t.steps) served turn)) a.stands;
+        crash = crashes_on start.site.store.files.told old.site.store site.store o served request r.now r.step [] left
+            (so.crash t) a;
+        why = due (steps_of served) why;
+      };
+      counts = subst (λ (steps : List Step). CountedOver start.site.store site.store steps)
           (sym (flat_map-snoc (λ (t : Exchange). t.steps) served turn))
-          (counts_on start.site old.site site (steps_of served) r.step so.counts r.counts.faults r.counts.views);
+          (counts_on tells.disk start.site.store old.site.store site.store (steps_of served) r.step so.counts r.is_step);
     }
 
-by_disk : (tells : Telling) (start now : Scene) → Stopped tells start now Memory → Stopped tells start now Disk
-by_disk tells start now s =
-    record {
-      talk = s.talk;
-      said = s.said;
-      served = tt;
-      whole = s.whole;
-      reads = s.reads;
-      writes = s.writes;
-      ticks = s.ticks;
-      most = s.most;
-      ends = s.ends;
-      counts = s.counts;
-    }
-
-pub refusal_ends : (refusal : Refusal) (tells : Telling) (start old : Scene) (site : Site)
+pub refusal_ends : (refusal : Refusal) (tells : Telling) (o : Opening) (start old : Scene) (site : Site)
     (before after : Stream) (gathered written : List ℕ) (faults : ℕ) (served : List Exchange)
     (request : Request)
-    → SoFar tells start old before gathered served → StandsIn before.rest request after.rest
-    → IsOffered request → Refused tells.disk tells.clock request old.site site
+    → SoFar tells o start old before gathered served → StandsIn before.rest request after.rest
+    → IsOffered request → Refused tells.disk tells.clock refusal request old.site site
     → Flushed tells.sink old.written written gathered old.sink_faults faults
-    → Stopped tells start (with_sink (at_site old site) written faults) (status_of refusal)
-refusal_ends refused_memory tells start old site before after gathered written faults served request
+    → Stopped tells o start (with_sink (at_site old site) written faults) (status_of refusal)
+refusal_ends refused_memory tells o start old site before after gathered written faults served request
     so stands offered r flushed =
-    refused_ends tells start old site before after gathered written faults served request so stands offered r flushed
-refusal_ends refused_disk tells start old site before after gathered written faults served request so
-    stands offered r flushed =
-    by_disk tells start _
-    (refused_ends tells start old site before after gathered written faults served request so
-    stands offered r flushed)
+    refused_ends Memory refused_memory tells o start old site before after gathered written faults served request so
+    stands offered r flushed (λ talk. tt) (λ input left talk h. h) (λ a b out replies h. h) (λ a b. tt) (λ h why. why)
+refusal_ends refused_disk tells o start old site before after gathered written faults served request
+    so stands offered r flushed =
+    refused_ends Disk refused_disk tells o start old site before after gathered written faults served request so
+    stands offered r flushed (λ talk. tt) (λ input left talk h. h) (λ a b out replies h. h) (λ a b. tt) (λ h why. why)
+refusal_ends refused_full tells o start old site before after gathered written faults served request
+    so stands offered r flushed =
+    refused_ends Full refused_full tells o start old site before after gathered written faults served request so
+    stands offered r flushed (λ talk. tt) (λ input left talk h. h) (λ a b out replies h. h) (λ a b. tt) (λ h why. why)
+refusal_ends refused_damaged tells o start old site before after gathered written faults served request
+    so stands offered r flushed =
+    refused_ends Damaged refused_damaged tells o start old site before after gathered written faults served request so
+    stands offered r flushed (λ talk. tt) (λ input left talk h. h) (λ a b out replies h. h) (λ a b. tt) (λ h why. why)
 
 -- Memory ran out before a request was served.
-pub memory_ends : (tells : Telling) (start now : Scene) (stream : Stream) (gathered written : List ℕ)
+pub memory_ends : (tells : Telling) (o : Opening) (start now : Scene) (stream : Stream) (gathered written : List ℕ)
     (faults : ℕ) (served : List Exchange)
-    → SoFar tells start now stream gathered served
+    → SoFar tells o start now stream gathered served
     → Flushed tells.sink now.written written gathered now.sink_faults faults
-    → Stopped tells start (with_sink now written faults) Memory
-memory_ends tells start now stream gathered written faults served so flushed = record {
+    → Stopped tells o start (with_sink now written faults) Memory
+memory_ends tells o start now stream gathered written faults served so flushed = record {
   talk = whole_talk served;
   said = is_whole served so.each;
   served = tt;
   whole = so.whole;
-  reads = some_left tells start now stream gathered served so;
+  reads = some_left tells o start now stream gathered served so;
   writes = λ t. last_written tells.sink start.written now.written gathered written start.sink_faults
       now.sink_faults faults (replies_of served) (so.made t) so.sink t flushed;
   ticks = λ t.
       subst (λ (ts : List Exchange). Ticks (moments_of ts) start.site.moments now.site.moments)
       (sym (append-nil served)) (so.ticks t);
   most = tt;
-  ends = λ t. subst (λ (ts : List Exchange). LeftAfter now.site (steps_of ts))
-      (sym (append-nil served)) (left_standing now.site (steps_of served) (so.stands t));
-  counts = subst (λ (ts : List Exchange). CountedOver start.site now.site (steps_of ts))
+  own = subst (λ (ts : List Exchange). AllByRecursion IsOwn (steps_of ts)) (sym (append-nil served)) so.own;
+  ends = λ t. ends_standing Memory o start.site.store now.site.store served (so.stands t) (so.crash t) tt;
+  counts = subst (λ (ts : List Exchange). CountedOver start.site.store now.site.store (steps_of ts))
       (sym (append-nil served)) so.counts;
 }
 
@@ -515,13 +558,13 @@ fits_a = record {
   bytes = λ i. grind (arith, common_steps);
 }
 
-pub bad_left : (tells : Telling) (start now : Scene) (stream : Stream) (gathered : List ℕ)
-    (served : List Exchange) → SoFar tells start now stream gathered served
+pub bad_left : (tells : Telling) (o : Opening) (start now : Scene) (stream : Stream) (gathered : List ℕ)
+    (served : List Exchange) → SoFar tells o start now stream gathered served
     → NeverOffered stream.rest → IsTrue tells.source
     → Reads NotBuilt (drop start.taken start.whole) [] (whole_talk served)
 unfolding some_left
-bad_left tells start now stream gathered served so never t =
-    let (rest, read) = some_left tells start now stream gathered served so t in
+bad_left tells o start now stream gathered served so never t =
+    let (rest, read) = some_left tells o start now stream gathered served so t in
     (rest, read, some (stream.rest) (drop now.taken now.whole) never, never (drop now.taken now.whole))
   where
     some : (front back : List ℕ) → NeverOffered front → 0 < length (front ++ back)
@@ -531,11 +574,11 @@ bad_left tells start now stream gathered served so never t =
         (record { fits = fits_a; whole = sym (append-nil (request_text (Get (97 ∷ [])))) }) tt)
 
 -- The input ended: within a request, or behind the last one.
-pub input_left : (tells : Telling) (start now : Scene) (stream : Stream) (gathered : List ℕ)
-    (served : List Exchange) → SoFar tells start now stream gathered served
+pub input_left : (tells : Telling) (o : Opening) (start now : Scene) (stream : Stream) (gathered : List ℕ)
+    (served : List Exchange) → SoFar tells o start now stream gathered served
     → (IsTrue tells.source → drop now.taken now.whole ≡ []) → IsPartial stream.rest → 0 < length stream.rest
     → IsTrue tells.source → Reads NotBuilt (drop start.taken start.whole) [] (whole_talk served)
-input_left tells start now stream gathered served so none part some t = (
+input_left tells o start now stream gathered served so none part some t = (
   stream.rest,
   so.read t ∙ ap (λ (l : List ℕ). (requests_of served ++ stream.rest) ++ l) (none t)
       ∙ append-nil (requests_of served ++ stream.rest)
@@ -544,22 +587,22 @@ input_left tells start now stream gathered served so none part some t = (
   λ r rest stands _. none_in_partial stream.rest part r rest stands,
 )
 
-pub all_read : (tells : Telling) (start now : Scene) (stream : Stream) (gathered : List ℕ)
-    (served : List Exchange) → SoFar tells start now stream gathered served
+pub all_read : (tells : Telling) (o : Opening) (start now : Scene) (stream : Stream) (gathered : List ℕ)
+    (served : List Exchange) → SoFar tells o start now stream gathered served
     → (IsTrue tells.source → drop now.taken now.whole ≡ []) → stream.rest ≡ []
     → IsTrue tells.source → Reads Done (drop start.taken start.whole) [] (whole_talk served)
-all_read tells start now stream gathered served so none empty t =
+all_read tells o start now stream gathered served so none empty t =
     so.read t ∙ ap (λ (l : List ℕ). (requests_of served ++ stream.rest) ++ l) (none t)
     ∙ append-nil (requests_of served ++ stream.rest)
     ∙ ap (λ (l : List ℕ). requests_of served ++ l) empty ∙ append-nil (requests_of served)
     ∙ ap (λ (ts : List Exchange). requests_of ts) (sym (append-nil served))
 
 -- The run stops with less than a request behind those that were served.
-partial_left : (tells : Telling) (start now : Scene) (stream : Stream) (gathered whole : List ℕ)
-    (took : ℕ) (served : List Exchange) → SoFar tells start now stream gathered served
+partial_left : (tells : Telling) (o : Opening) (start now : Scene) (stream : Stream) (gathered whole : List ℕ)
+    (took : ℕ) (served : List Exchange) → SoFar tells o start now stream gathered served
     → (IsTrue tells.source → whole ≡ now.whole) → (IsTrue tells.source → took ≡ now.taken) → IsPartial stream.rest
     → IsTrue tells.source → ReadsAll (drop start.taken start.whole) (drop took whole) (whole_talk served)
-partial_left tells start now stream gathered whole took served so same unmoved part t = (
+partial_left tells o start now stream gathered whole took served so same unmoved part t = (
   stream.rest,
   so.read t
       ∙ ap (λ (l : List ℕ). (requests_of served ++ stream.rest) ++ l)
@@ -586,30 +629,30 @@ pub asks_on : (r : Option Status) (dt kt ct : Bool) (request : Request) (old new
     → WritesSome r kt written faults more later faults_later left → faults ≤ faults_later
     → Asks r dt kt ct request old written faults gathered new later faults_later left
 asks_on None dt kt ct request old new written faults gathered more later faults_later left a some rises =
-    λ st whole took before after stands same start served so.
+    λ st whole took before after stands same o start served so.
     let tells : Telling = telling dt st kt ct in
     let scene : Scene = scene_of old whole took written faults in
     let turns : List Exchange = served ++ turn_of request a.served.now a.served.step (a.reply ∷ []) ∷ [] in (
       turns,
-      moves_out tells start (at_site scene new) after more left later faults_later turns
-          (goes_on tells start scene new before after gathered more served request so stands same a) some rises,
+      moves_out tells o start (at_site scene new) after more left later faults_later turns
+          (goes_on tells o start scene new before after gathered more served request so stands same a) some rises,
     )
 asks_on (Some status) dt kt ct request old new written faults gathered more later faults_later left a some rises =
-    λ st whole took before after stands same start served so.
+    λ st whole took before after stands same o start served so.
     let tells : Telling = telling dt st kt ct in
     let scene : Scene = scene_of old whole took written faults in
     let turns : List Exchange = served ++ turn_of request a.served.now a.served.step (a.reply ∷ []) ∷ [] in
-    subst (λ (s : Status). Stopped tells start (scene_of new whole took later faults_later) s) (sym some.0)
-    (sink_ends tells start (at_site scene new) after more later faults_later turns
-    (goes_on tells start scene new before after gathered more served request so stands same a) some.1)
+    subst (λ (s : Status). Stopped tells o start (scene_of new whole took later faults_later) s) (sym some.0)
+    (sink_ends tells o start (at_site scene new) after more later faults_later turns
+    (goes_on tells o start scene new before after gathered more served request so stands same a) some.1)
 
 pub asks_no_more : (refusal : Refusal) (dt kt ct : Bool) (request : Request) (old new : Site)
     (written : List ℕ) (faults : ℕ) (gathered : List ℕ) (later : List ℕ) (faults_later : ℕ) (left : List ℕ)
-    → IsOffered request → Refused dt ct request old new → Flushed kt written later gathered faults faults_later
+    → IsOffered request → Refused dt ct refusal request old new → Flushed kt written later gathered faults faults_later
     → Asks (Some (status_of refusal)) dt kt ct request old written faults gathered new later faults_later left
 asks_no_more refusal dt kt ct request old new written faults gathered later faults_later left offered r flushed =
-    λ st whole took before after stands same start served so.
-    refusal_ends refusal (telling dt st kt ct) start (scene_of old whole took written faults) new
+    λ st whole took before after stands same o start served so.
+    refusal_ends refusal (telling dt st kt ct) o start (scene_of old whole took written faults) new
     before after gathered later faults_later served request so stands offered r flushed
 
 -- What a run does where it reads on.
@@ -619,18 +662,18 @@ pub reads_no_more : (dt st kt ct : Bool) (site : Site) (whole : List ℕ) (took 
     → Turns (Some Sink) (telling dt st kt ct) (scene_of site whole took written faults) stream
     gathered (scene_of site whole took later faults_later) after left
 reads_no_more dt st kt ct site whole took written faults gathered later faults_later stream after left failed =
-    λ start served so. sink_ends (telling dt st kt ct) start (scene_of site whole took written faults)
+    λ o start served so. sink_ends (telling dt st kt ct) o start (scene_of site whole took written faults)
     stream gathered later faults_later served so failed
 
 -- all that was gathered went out
-emptied : (tells : Telling) (start : Scene) (site : Site) (whole : List ℕ) (took : ℕ)
+emptied : (tells : Telling) (o : Opening) (start : Scene) (site : Site) (whole : List ℕ) (took : ℕ)
     (written : List ℕ) (faults : ℕ) (gathered later : List ℕ) (faults_later : ℕ) (stream : Stream)
     (served : List Exchange)
-    → SoFar tells start (scene_of site whole took written faults) stream gathered served
+    → SoFar tells o start (scene_of site whole took written faults) stream gathered served
     → (IsTrue tells.sink → Wrote written later gathered) → faults ≤ faults_later
-    → SoFar tells start (scene_of site whole took later faults_later) stream [] served
-emptied tells start site whole took written faults gathered later faults_later stream served so wrote rises =
-    moves_out tells start (scene_of site whole took written faults) stream gathered [] later
+    → SoFar tells o start (scene_of site whole took later faults_later) stream [] served
+emptied tells o start site whole took written faults gathered later faults_later stream served so wrote rises =
+    moves_out tells o start (scene_of site whole took written faults) stream gathered [] later
     faults_later served so (λ t. (gathered, wrote t, sym (append-nil gathered))) rises
 
 pub stops_at_bad : (dt st kt ct : Bool) (site : Site) (whole : List ℕ) (took : ℕ) (written : List ℕ)
@@ -640,13 +683,13 @@ pub stops_at_bad : (dt st kt ct : Bool) (site : Site) (whole : List ℕ) (took :
     gathered (scene_of site whole took later faults_later) after left
 stops_at_bad dt st kt ct site whole took written faults gathered later faults_later stream after left
     never wrote rises =
-    λ start served so.
+    λ o start served so.
     let so' =
-    emptied (telling dt st kt ct) start site whole took written faults gathered later faults_later
+    emptied (telling dt st kt ct) o start site whole took written faults gathered later faults_later
     stream served so wrote rises in
-    ends (telling dt st kt ct) start (scene_of site whole took later faults_later) stream whole took
+    ends (telling dt st kt ct) o start (scene_of site whole took later faults_later) stream whole took
     served NotBuilt so' (λ t. refl)
-    (bad_left (telling dt st kt ct) start (scene_of site whole took later faults_later) stream [] served so' never) tt
+    (bad_left (telling dt st kt ct) o start (scene_of site whole took later faults_later) stream [] served so' never) tt tt
 
 pub reads_more : (i : Input) (last : Bool) (dt st kt ct : Bool) (site : Site) (old new : Inlet)
     (written : List ℕ) (faults : ℕ) (gathered later : List ℕ) (faults_later : ℕ)
@@ -658,84 +701,87 @@ pub reads_more : (i : Input) (last : Bool) (dt st kt ct : Bool) (site : Site) (o
     (scene_of site new.whole new.taken later faults_later) new.stream []
 reads_more Taken last dt st kt ct site old new written faults gathered later faults_later part wrote
     rises (piece, took) empty some same =
-    λ start served so. (
+    λ o start served so. (
       served,
-      takes_on (telling dt st kt ct) start (scene_of site old.whole old.taken later faults_later) old
+      takes_on (telling dt st kt ct) o start (scene_of site old.whole old.taken later faults_later) old
           new [] served piece
-          (emptied (telling dt st kt ct) start site old.whole old.taken written faults gathered later
+          (emptied (telling dt st kt ct) o start site old.whole old.taken written faults gathered later
           faults_later old.stream served so wrote rises) refl refl took same,
     )
 reads_more Ended true dt st kt ct site old new written faults gathered later faults_later part wrote
     rises (still, below, none) empty some same =
-    λ start served so.
+    λ o start served so.
     let so' =
-    emptied (telling dt st kt ct) start site old.whole old.taken written faults gathered later
+    emptied (telling dt st kt ct) o start site old.whole old.taken written faults gathered later
     faults_later old.stream served so wrote rises in
-    ends (telling dt st kt ct) start (scene_of site old.whole old.taken later faults_later) old.stream
+    ends (telling dt st kt ct) o start (scene_of site old.whole old.taken later faults_later) old.stream
     new.whole new.taken served Done so' same
-    (all_read (telling dt st kt ct) start (scene_of site old.whole old.taken later faults_later)
+    (all_read (telling dt st kt ct) o start (scene_of site old.whole old.taken later faults_later)
     old.stream [] served so' (λ t. (none t).0) (ap (λ s. s.rest) (sym still) ∙ empty refl))
-    (λ t. omega (arith, so.taken t, below, (none t).1))
+    (λ t. omega (arith, so.taken t, below, (none t).1)) tt
 reads_more Ended false dt st kt ct site old new written faults gathered later faults_later part wrote
     rises (still, below, none) empty some same =
-    λ start served so.
+    λ o start served so.
     let so' =
-    emptied (telling dt st kt ct) start site old.whole old.taken written faults gathered later
+    emptied (telling dt st kt ct) o start site old.whole old.taken written faults gathered later
     faults_later old.stream served so wrote rises in
-    ends (telling dt st kt ct) start (scene_of site old.whole old.taken later faults_later) old.stream
+    ends (telling dt st kt ct) o start (scene_of site old.whole old.taken later faults_later) old.stream
     new.whole new.taken served NotBuilt so' same
-    (input_left (telling dt st kt ct) start (scene_of site old.whole old.taken later faults_later)
+    (input_left (telling dt st kt ct) o start (scene_of site old.whole old.taken later faults_later)
     old.stream [] served so' (λ t. (none t).0) part
     (subst (λ (s : Stream). 0 < length s.rest) still (some refl)))
-    tt
+    tt tt
 reads_more took_most last dt st kt ct site old new written faults gathered later faults_later part
     wrote rises (still, all, unmoved) empty some same =
-    λ start served so.
+    λ o start served so.
     let so' =
-    emptied (telling dt st kt ct) start site old.whole old.taken written faults gathered later
+    emptied (telling dt st kt ct) o start site old.whole old.taken written faults gathered later
     faults_later old.stream served so wrote rises in
-    ends (telling dt st kt ct) start (scene_of site old.whole old.taken later faults_later) old.stream
+    ends (telling dt st kt ct) o start (scene_of site old.whole old.taken later faults_later) old.stream
     new.whole new.taken served Long so' same
-    (partial_left (telling dt st kt ct) start (scene_of site old.whole old.taken later faults_later)
+    (partial_left (telling dt st kt ct) o start (scene_of site old.whole old.taken later faults_later)
     old.stream [] new.whole new.taken served so' same unmoved part)
-    (λ t. omega (arith, so.taken t, all, unmoved t))
+    (λ t. omega (arith, so.taken t, all, unmoved t)) tt
 reads_more Failed last dt st kt ct site old new written faults gathered later faults_later part wrote
     rises (still, rose, unmoved) empty some same =
-    λ start served so.
+    λ o start served so.
     let so' =
-    emptied (telling dt st kt ct) start site old.whole old.taken written faults gathered later
+    emptied (telling dt st kt ct) o start site old.whole old.taken written faults gathered later
     faults_later old.stream served so wrote rises in
-    ends (telling dt st kt ct) start (scene_of site old.whole old.taken later faults_later) old.stream
+    ends (telling dt st kt ct) o start (scene_of site old.whole old.taken later faults_later) old.stream
     new.whole new.taken served Source so' same
-    (partial_left (telling dt st kt ct) start (scene_of site old.whole old.taken later faults_later)
-    old.stream [] new.whole new.taken served so' same unmoved part) tt
+    (partial_left (telling dt st kt ct) o start (scene_of site old.whole old.taken later faults_later)
+    old.stream [] new.whole new.taken served so' same unmoved part) tt tt
 reads_more no_memory last dt st kt ct site old new written faults gathered later faults_later part
     wrote rises still empty some same =
-    λ start served so.
+    λ o start served so.
     let so' =
-    emptied (telling dt st kt ct) start site old.whole old.taken written faults gathered later
+    emptied (telling dt st kt ct) o start site old.whole old.taken written faults gathered later
     faults_later old.stream served so wrote rises in
-    ends (telling dt st kt ct) start (scene_of site old.whole old.taken later faults_later) old.stream
+    ends (telling dt st kt ct) o start (scene_of site old.whole old.taken later faults_later) old.stream
     new.whole new.taken served Memory so' same
-    (some_left (telling dt st kt ct) start (scene_of site old.whole old.taken later faults_later)
-    old.stream [] served so') tt
+    (some_left (telling dt st kt ct) o start (scene_of site old.whole old.taken later faults_later)
+    old.stream [] served so') tt tt
 
 -- how far a run has come before its first request
-pub nothing_yet : (tells : Telling) (start : Scene) (stream : Stream)
-    → (IsTrue tells.disk → Holds start.site.told start.site.catalog start.site.index [])
+pub nothing_yet : (tells : Telling) (o : Opening) (start : Scene) (stream : Stream)
+    → (IsTrue tells.disk → StandsFor start.site.store o [] [])
     → stream.rest ≡ [] → taken stream ≡ 0
-    → SoFar tells start start stream [] []
-nothing_yet tells start stream holds empty none = record {
+    → SoFar tells o start start stream [] []
+nothing_yet tells o start stream stands empty none = record {
   each = tt;
   whole = λ t. refl;
   read = λ t. ap (λ (l : List ℕ). l ++ drop start.taken start.whole) (sym empty);
   taken = λ t. omega (arith, none);
   made = λ t. ([], sym (append-nil start.written), refl);
   ticks = λ t. refl;
-  stands = λ t. ([], record { legal = tt; state = refl }, holds t);
+  own = tt;
+  stands = stands;
+  crash = λ t k low high. absurd (omega (arith, low, high));
   counts = record {
-    faults = counted_exactly start.site.faults 0 start.site.faults (omega arith);
-    views = counted_exactly start.site.views 0 start.site.views (omega arith);
+    faults = counted_exactly start.site.store.files.faults 0 start.site.store.files.faults (omega arith);
+    views = counted_exactly start.site.store.files.fallible_views 0 start.site.store.files.fallible_views (omega arith);
+    outs = counted_exactly start.site.store.files.fallible_outs 0 start.site.store.files.fallible_outs (omega arith);
   };
   sink = omega arith;
 }

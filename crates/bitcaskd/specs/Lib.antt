@@ -1,9 +1,7 @@
 pub mod Closing
 pub mod Found
-pub mod Index
+pub mod Opening
 pub mod Refusal
 pub mod Run
 pub mod Serving
-pub mod Shelf
-pub mod Store
 pub mod Talking

@@ -1,23 +1,24 @@
 -- What one run of `pipe` does, from the bytes of its source to the bytes of its sink.
-use Rattle.std.specs.Prelude.{◌≡◌, ◌≢◌, ◌⊎◌, ℕ, ◌+◌, ◌<◌, ◌≤◌, List, [], ◌∷◌, ◌++◌, Bool, IsTrue, length, drop, sum_by, codes, false}
+use Rattle.std.specs.Prelude.{◌≡◌, ◌≢◌, ◌⊎◌, ℕ, ◌+◌, ◌<◌, ◌≤◌, List, [], ◌∷◌, ◌++◌, Bool, IsTrue, Some, length, drop, sum_by, codes, false}
+use Rattle.std.specs.List.{AllByRecursion}
 use Rattle.bk_base.specs.declared.limits.TheConstants.{LONGEST_SESSION}
 use Rattle.bk_base.specs.declared.numbers.Moment.{Moment}
 use Rattle.bk_base.specs.declared.histories.Opening.{Opening}
 use Rattle.bk_base.specs.declared.histories.Step.{Step}
 use Rattle.bk_base.specs.declared.calls.Call.TheVariants.{Sync, Quiet}
 use Rattle.bk_base.specs.declared.statuses.Status.{Status}
-use Rattle.bk_base.specs.declared.statuses.Status.TheVariants.{Done, Memory, Disk, Source, Sink, Long, NotBuilt}
+use Rattle.bk_base.specs.declared.statuses.Status.TheVariants.{Done, Memory, Disk, Source, Sink, Damaged, Full, Long, NotBuilt}
 use Rattle.bk_base.specs.declared.writes.Write.{Write}
 use Rattle.bk_disk.specs.Causes.{Rose}
-use Rattle.bk_disk.specs.Crashes.{IsSynced}
-use Rattle.bk_disk.specs.Told.{Image, Told}
+use Rattle.bk_disk.specs.Crashes.{MayLeaveNow, fronts_at}
+use Rattle.bk_disk.specs.Told.{Front, Image, Table, Told, clock}
+use Rattle.bk_image.specs.Prefix.{MeetsEither, MeetsPrefix, Prefix}
 use Rattle.bk_laws.specs.History.{IsLegalHistory, log_of}
 use Rattle.bk_laws.specs.Wire.{IsPartial}
-use Rattle.bk_laws.specs.Session.{Transcript, IsTranscript, all_exchanges, requests_of, replies_of, steps_of, moments_of, NoneOffered}
+use Rattle.bk_laws.specs.Session.{Exchange, Transcript, IsTranscript, all_exchanges, requests_of, replies_of, steps_of, moments_of, NoneOffered}
 use Rattle.bk_disk.specs.Counts.{Counted}
-use Rattle.bitcaskd.specs.Serving.{Ticks}
-use Rattle.bitcaskd.specs.Shelf.{filed, files}
-use Rattle.bitcaskd.specs.Store.{IsImageOf}
+use Rattle.bk_store.specs.History.{kept_of}
+use Rattle.bitcaskd.specs.Serving.{IsFull, IsLeft, IsOwn, Ticks, tries}
 
 -- which of the four objects tell their content
 pub record Telling : Type 0 where
@@ -32,17 +33,19 @@ pub record Outside : Type 0 where
   pub told : Told
   pub faults : ℕ
   pub views : ℕ
+  pub outs : ℕ
   pub whole : List ℕ
   pub taken : ℕ
   pub written : List ℕ
   pub sink_faults : ℕ
   pub moments : List Moment
 
-abbrev pub outside : Told → ℕ → ℕ → List ℕ → ℕ → List ℕ → ℕ → List Moment → Outside
-outside told faults views whole taken written sink_faults moments = record {
+abbrev pub outside : Told → ℕ → ℕ → ℕ → List ℕ → ℕ → List ℕ → ℕ → List Moment → Outside
+outside told faults views outs whole taken written sink_faults moments = record {
   told = told;
   faults = faults;
   views = views;
+  outs = outs;
   whole = whole;
   taken = taken;
   written = written;
@@ -91,23 +94,30 @@ faults_in = sum_by (λ (step : Step). step.faults)
 abbrev pub views_in : List Step → ℕ
 views_in = sum_by (λ (step : Step). step.views)
 
--- The sync at the end: a step that syncs, after which nothing is unsynced; or one that was refused,
--- whose disk failed.
-pub record IsSync (tells : Bool) (t : Told) (step : Step) : Type 0 where
+abbrev pub outs_in : List Step → ℕ
+outs_in = sum_by (λ (step : Step). step.outs)
+
+-- A crash now takes nothing: what it leaves has exactly the map of this log.
+abbrev pub IsAllSynced : Told → List Write → Type 0
+IsAllSynced t log = (image : Image) → MayLeaveNow t image → Prefix image log (length log) []
+
+-- The sync at the end: a step that syncs, after which a crash takes nothing; or one that was
+-- refused, whose disk failed.
+pub record IsSync (tells : Bool) (t : Told) (log : List Write) (step : Step) : Type 0 where
   pub call : step.entry.call ≡ Sync
-  pub synced : IsTrue tells → IsSynced t
+  pub synced : IsTrue tells → IsAllSynced t log
 
 pub record IsFailedSync (step : Step) : Type 0 where
   pub call : step.entry.call ≡ Quiet
   pub failed : 1 ≤ step.faults
 
-abbrev pub Closes : Bool → Told → Status → List Step → Type 0
-Closes tells t Done (step ∷ []) = IsSync tells t step
-Closes tells t NotBuilt (step ∷ []) = IsSync tells t step ⊎ IsFailedSync step
-Closes tells t Disk (step ∷ []) = IsFailedSync step
-Closes tells t Done steps = ⊥
-Closes tells t NotBuilt steps = ⊥
-Closes tells t status steps = steps ≡ []
+abbrev pub Closes : Bool → Told → List Write → Status → List Step → Type 0
+Closes tells t log Done (step ∷ []) = IsSync tells t log step
+Closes tells t log NotBuilt (step ∷ []) = IsSync tells t log step ⊎ IsFailedSync step
+Closes tells t log Disk (step ∷ []) = IsFailedSync step
+Closes tells t log Done steps = ⊥
+Closes tells t log NotBuilt steps = ⊥
+Closes tells t log status steps = steps ≡ []
 
 -- a run that took all bytes that may be taken, and one that read its input to its end before that
 abbrev pub TakesMost : Status → Bool → ℕ → ℕ → Type 0
@@ -122,6 +132,8 @@ IsBuilt Memory = Unit {0}
 IsBuilt Disk = Unit {0}
 IsBuilt Source = Unit {0}
 IsBuilt Sink = Unit {0}
+IsBuilt Damaged = Unit {0}
+IsBuilt Full = Unit {0}
 IsBuilt Long = Unit {0}
 IsBuilt NotBuilt = Unit {0}
 IsBuilt status = ⊥
@@ -130,18 +142,56 @@ IsBuilt status = ⊥
 abbrev pub all_steps : Transcript → List Step → List Step
 all_steps talk closing = steps_of (all_exchanges talk) ++ closing
 
--- Only where the disk refused a call, or memory ran out, may a request have no reply.
+-- Only where a call of the store was refused may a request have no reply.
 abbrev pub IsServed : Status → Transcript → Type 0
 IsServed Memory talk = Unit {0}
 IsServed Disk talk = Unit {0}
+IsServed Damaged talk = Unit {0}
+IsServed Full talk = Unit {0}
 IsServed status talk = talk.cut ≡ []
 
--- The files are exactly those of the log. After such a refusal they may also have a first part of the
--- one write that was tried.
-abbrev pub IsImageAt : Status → Image → List Write → Type 0
-IsImageAt Memory image log = (tried : List Write) × (length tried ≤ 1) × IsImageOf image log tried
-IsImageAt Disk image log = (tried : List Write) × (length tried ≤ 1) × IsImageOf image log tried
-IsImageAt status image log = image ≡ files (filed log)
+-- Full comes only where the last seq or the last file number is given out, and damaged never.
+abbrev pub IsLicensed : Status → Opening → List Step → Type 0
+IsLicensed Full o h = IsFull o h
+IsLicensed Damaged o h = ⊥
+IsLicensed status o h = Unit {0}
+
+-- the write that the first of these requests tries behind a log, where there is one
+abbrev pub tried_by : List Exchange → List Write → List Write
+tried_by [] log = []
+tried_by (t ∷ ts) log = tries t.request t.now log
+
+-- The directory has the map of the log, or of the log and the write that was tried. Each image that
+-- a crash may leave without a chance match has that of a prefix with each synced write. Only the
+-- request that got no reply may have tried one.
+pub record IsLeftWith (t : Told) (o : Opening) (h served : List Step) (cut : List Exchange) : Type 0 where
+  pub tried : List Write
+  pub by : IsLeft (tried_by cut (log_of o served)) tried
+  pub image : Prefix t.image (log_of o h) (length (log_of o h)) tried
+  pub crash : MeetsPrefix (log_of o h) (kept_of o h) tried t.fronts
+
+-- the step ended after this moment of the disk's clock
+abbrev pub IsLater : ℕ → Step → Type 0
+IsLater k step = (c : ℕ) × (step.at ≡ Some c) × (k < c)
+
+-- A crash at a moment of the disk's clock: `done` are requests among which each is whose step had
+-- ended by then, and a crash leaves the map of a prefix of their writes and of the one that the next
+-- request tries. It holds each write that was synced by then.
+pub record CrashesAt (o : Opening) (turns : List Exchange) (k : ℕ) (fronts : Table Front) : Type 0 where
+  pub done : List Exchange
+  pub rest : List Exchange
+  pub are : done ++ rest ≡ turns
+  pub later : AllByRecursion (IsLater k) (steps_of rest)
+  pub meets : MeetsEither (log_of o (steps_of done)) (kept_of o (steps_of done)) []
+      (tried_by rest (log_of o (steps_of done))) fronts
+
+-- at each moment from one to the other
+abbrev pub CrashesBetween : Told → Told → Opening → List Exchange → Type 0
+CrashesBetween old new o turns = (k : ℕ) → clock old ≤ k → k < clock new → CrashesAt o turns k (fronts_at new k)
+
+-- each of these steps ended at this moment
+abbrev pub AreAt : Told → List Step → Type 0
+AreAt t steps = AllByRecursion (λ (step : Step). step.at ≡ Some (clock t)) steps
 
 -- an opening without writes and folds, and without a time to live
 pub record IsNew (o : Opening) : Type 0 where
@@ -163,14 +213,18 @@ pub record Runs (tells : Telling) (old new : Outside) (status : Status) : Type 0
   pub writes : IsTrue tells.sink → (out : List ℕ) × (new.written ≡ old.written ++ out)
       × Writes status old.sink_faults new.sink_faults out (replies_of talk.served)
   pub ticks : IsTrue tells.clock → Ticks (moments_of (all_exchanges talk)) old.moments new.moments
-  pub closes : Closes tells.disk new.told status closing
+  pub closes : Closes tells.disk new.told (log_of opening (steps_of (all_exchanges talk))) status closing
   pub most : TakesMost status tells.source old.taken new.taken
+  pub own : AllByRecursion IsOwn (all_steps talk closing)
   pub legal : IsTrue tells.disk → IsLegalHistory opening (all_steps talk closing)
-  pub image : IsTrue tells.disk → IsImageAt status new.told.image (log_of opening (all_steps talk closing))
-  pub from : old.faults ≤ opening.faults
-  pub from_views : old.views ≤ opening.views
+  pub why : IsTrue tells.disk → IsLicensed status opening (steps_of talk.served)
+  pub left : IsTrue tells.disk → IsLeftWith new.told opening (all_steps talk closing) (steps_of talk.served) talk.cut
+  pub crash : IsTrue tells.disk → CrashesBetween old.told new.told opening (all_exchanges talk)
+  pub closed : IsTrue tells.disk → AreAt new.told closing
+  pub from : (old.faults ≤ opening.faults) × (old.views ≤ opening.views) × (old.outs ≤ opening.outs)
   pub faults : Counted false opening.faults (faults_in (all_steps talk closing)) new.faults
   pub views : Counted false opening.views (views_in (all_steps talk closing)) new.views
+  pub outs : Counted false opening.outs (outs_in (all_steps talk closing)) new.outs
 
 -- The words are those of `pipe` with a directory.
 abbrev pub IsPipe : List (List ℕ) → Type 0

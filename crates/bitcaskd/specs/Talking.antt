@@ -1,27 +1,26 @@
 -- How far a run has come between two requests, and where it ended.
 use Rattle.std.specs.Prelude.{◌≡◌, ◌⊎◌, ℕ, ◌+◌, ◌-◌, ◌*◌, ◌<◌, ◌≤◌, List, [], ◌++◌, Bool, true, false, Option, None, Some, IsTrue, length, drop}
 use Rattle.std.specs.List.{AllByRecursion}
+use Rattle.bk_base.specs.declared.histories.Opening.{Opening}
 use Rattle.bk_base.specs.declared.histories.Step.{Step}
 use Rattle.bk_base.specs.declared.requests.Request.{Request}
 use Rattle.bk_base.specs.declared.statuses.Status.{Status}
-use Rattle.bk_base.specs.declared.statuses.Status.TheVariants.{Done, Memory, Disk, Source, Sink, Long, NotBuilt}
+use Rattle.bk_base.specs.declared.statuses.Status.TheVariants.{Done, Memory, Disk, Source, Sink, Damaged, Full, Long, NotBuilt}
 use Rattle.bk_base.specs.declared.writes.Write.{Write}
 use Rattle.bk_disk.specs.Causes.{Rose}
-use Rattle.bk_files.specs.Catalog.{Known}
-use Rattle.bk_laws.specs.History.{IsLegal, state_of, entries}
+use Rattle.bk_laws.specs.History.{log_of}
 use Rattle.bk_laws.specs.Session.{Exchange, IsExchange, Transcript, IsTranscript, all_exchanges, requests_of, replies_of, steps_of, moments_of}
 use Rattle.bk_laws.specs.Wire.{StandsIn}
 use Rattle.bk_wire.specs.Stream.{Stream, taken}
 use Rattle.bk_disk.specs.Counts.{Counted}
 use Rattle.bk_disk.specs.Streams.{Wrote, LeftOver}
-use Rattle.bitcaskd.specs.Run.{Telling, telling, Outside, Reads, Writes, TakesMost, most_taken, faults_in, views_in, IsServed}
-use Rattle.bitcaskd.specs.Serving.{Site, Ticks, plain}
-use Rattle.bitcaskd.specs.Shelf.{FitsWithin}
-use Rattle.bitcaskd.specs.Store.{Holds, IsImageOf}
-use Rattle.bitcaskd.specs.declared.index.Index.{Index}
+use Rattle.bk_store.specs.Shown.{Shown}
+use Rattle.bk_store.specs.Standing.{StandsFor}
+use Rattle.bitcaskd.specs.Run.{Telling, telling, Outside, Reads, Writes, TakesMost, most_taken, faults_in, views_in, outs_in, IsServed, IsLicensed, CrashesBetween, tried_by}
+use Rattle.bitcaskd.specs.Serving.{Site, Ticks, IsLeft, IsOwn}
 use Rattle.bitcaskd.specs.declared.input.Input.{Input}
 use Rattle.bitcaskd.specs.declared.refusals.Refusal.{Refusal}
-use Rattle.bitcaskd.specs.declared.refusals.Refusal.TheVariants.{Memory as refused_memory, Disk as refused_disk}
+use Rattle.bitcaskd.specs.declared.refusals.Refusal.TheVariants.{Memory as refused_memory, Disk as refused_disk, Full as refused_full, Damaged as refused_damaged}
 use Rattle.bitcaskd.specs.declared.input.Input.TheVariants.{Taken, Ended, Long as took_most, Failed, Memory as no_memory}
 
 -- what the objects show inside a run: the store's site, and the streams
@@ -35,9 +34,10 @@ pub record Scene : Type 0 where
 -- the same, without what the store keeps in memory
 abbrev pub outside_of : Scene → Outside
 outside_of s = record {
-  told = s.site.told;
-  faults = s.site.faults;
-  views = s.site.views;
+  told = s.site.store.files.told;
+  faults = s.site.store.files.faults;
+  views = s.site.store.files.fallible_views;
+  outs = s.site.store.files.fallible_outs;
   whole = s.whole;
   taken = s.taken;
   written = s.written;
@@ -45,28 +45,15 @@ outside_of s = record {
   moments = s.site.moments;
 }
 
--- the steps are legal from the empty log, and lead to this one
-pub record LeadTo (steps : List Step) (log : List Write) : Type 0 where
-  pub legal : IsLegal 0 (plain []) (entries steps)
-  pub state : state_of (plain []) (entries steps) ≡ plain log
-
--- the store stands for the log of the steps
-abbrev pub StandsAfter : Site → List Step → Type 0
-StandsAfter site steps = (log : List Write) × LeadTo steps log × Holds site.told site.catalog site.index log
-
--- the files hold the log of the steps, and a first part of what was tried
-abbrev pub LeftAfter : Site → List Step → Type 0
-LeftAfter site steps = (log tried : List Write) × LeadTo steps log × (length tried ≤ 1)
-    × IsImageOf site.told.image log tried
-
--- the counts of faults and of fallible views went on over the steps
-pub record CountedOver (old new : Site) (steps : List Step) : Type 0 where
-  pub faults : Counted false old.faults (faults_in steps) new.faults
-  pub views : Counted false old.views (views_in steps) new.views
+-- the counts of faults, fallible views and fallible files went on over the steps
+pub record CountedOver (old new : Shown) (steps : List Step) : Type 0 where
+  pub faults : Counted false old.files.faults (faults_in steps) new.files.faults
+  pub views : Counted false old.files.fallible_views (views_in steps) new.files.fallible_views
+  pub outs : Counted false old.files.fallible_outs (outs_in steps) new.files.fallible_outs
 
 -- Between two requests: these turns were served, the reader holds what was taken behind their
 -- requests, and what was written and gathered are their replies.
-pub record SoFar (tells : Telling) (start now : Scene) (stream : Stream) (gathered : List ℕ)
+pub record SoFar (tells : Telling) (o : Opening) (start now : Scene) (stream : Stream) (gathered : List ℕ)
     (served : List Exchange) : Type 0 where
   pub each : AllByRecursion (IsExchange 0) served
   pub whole : IsTrue tells.source → now.whole ≡ start.whole
@@ -76,18 +63,24 @@ pub record SoFar (tells : Telling) (start now : Scene) (stream : Stream) (gather
   pub made : IsTrue tells.sink → (out : List ℕ) × (now.written ≡ start.written ++ out)
       × (out ++ gathered ≡ replies_of served)
   pub ticks : IsTrue tells.clock → Ticks (moments_of served) start.site.moments now.site.moments
-  pub stands : IsTrue tells.disk → StandsAfter now.site (steps_of served)
-  pub counts : CountedOver start.site now.site (steps_of served)
+  pub own : AllByRecursion IsOwn (steps_of served)
+  pub stands : IsTrue tells.disk → StandsFor now.site.store o (steps_of served) []
+  pub crash : IsTrue tells.disk
+      → CrashesBetween start.site.store.files.told now.site.store.files.told o served
+  pub counts : CountedOver start.site.store now.site.store (steps_of served)
   pub sink : start.sink_faults ≤ now.sink_faults
 
--- what the store is left with: it stands for its log, but where it was refused
-abbrev pub EndsAt : Status → Site → List Step → Type 0
-EndsAt Memory site steps = LeftAfter site steps
-EndsAt Disk site steps = LeftAfter site steps
-EndsAt status site steps = StandsAfter site steps
+-- What the store is left with: it stands for all steps, and only the request that was cut off may
+-- have tried a write.
+pub record EndsAt (status : Status) (o : Opening) (start now : Shown) (talk : Transcript) : Type 0 where
+  pub tried : List Write
+  pub by : IsLeft (tried_by talk.cut (log_of o (steps_of talk.served))) tried
+  pub stands : StandsFor now o (steps_of (all_exchanges talk)) tried
+  pub crash : CrashesBetween start.files.told now.files.told o (all_exchanges talk)
+  pub why : IsLicensed status o (steps_of talk.served)
 
 -- The run ended before its last sync.
-pub record Stopped (tells : Telling) (start now : Scene) (status : Status) : Type 0 where
+pub record Stopped (tells : Telling) (o : Opening) (start now : Scene) (status : Status) : Type 0 where
   pub talk : Transcript
   pub said : IsTranscript 0 talk
   pub served : IsServed status talk
@@ -97,8 +90,14 @@ pub record Stopped (tells : Telling) (start now : Scene) (status : Status) : Typ
       × Writes status start.sink_faults now.sink_faults out (replies_of talk.served)
   pub ticks : IsTrue tells.clock → Ticks (moments_of (all_exchanges talk)) start.site.moments now.site.moments
   pub most : TakesMost status tells.source start.taken now.taken
-  pub ends : IsTrue tells.disk → EndsAt status now.site (steps_of (all_exchanges talk))
-  pub counts : CountedOver start.site now.site (steps_of (all_exchanges talk))
+  pub own : AllByRecursion IsOwn (steps_of (all_exchanges talk))
+  pub ends : IsTrue tells.disk → EndsAt status o start.site.store now.site.store talk
+  pub counts : CountedOver start.site.store now.site.store (steps_of (all_exchanges talk))
+
+-- it is said of each opening for which the store stood with no step
+abbrev pub StopsFor : Telling → Scene → Scene → Status → Type 0
+StopsFor tells start now status = (o : Opening) → (IsTrue tells.disk → StandsFor start.site.store o [] [])
+    → Stopped tells o start now status
 
 -- what is left to be read falls with each turn
 abbrev pub work_left : Stream → ℕ
@@ -140,14 +139,14 @@ scene_of site whole taken written sink_faults =
 -- wherever the run had come from, it has come further
 abbrev pub ComesOn : Telling → Scene → Stream → List ℕ → Scene → Stream → List ℕ → Type 0
 ComesOn tells old stream gathered new later more =
-    (start : Scene) (served : List Exchange) → SoFar tells start old stream gathered served
-    → (turns : List Exchange) × SoFar tells start new later more turns
+    (o : Opening) (start : Scene) (served : List Exchange) → SoFar tells o start old stream gathered served
+    → (turns : List Exchange) × SoFar tells o start new later more turns
 
 -- wherever the run had come from, it has ended so
 abbrev pub ComesToEnd : Telling → Scene → Stream → List ℕ → Scene → Status → Type 0
 ComesToEnd tells old stream gathered new status =
-    (start : Scene) (served : List Exchange) → SoFar tells start old stream gathered served
-    → Stopped tells start new status
+    (o : Opening) (start : Scene) (served : List Exchange) → SoFar tells o start old stream gathered served
+    → Stopped tells o start new status
 
 -- How a turn of the run went: it goes on, or it has ended with a status.
 abbrev pub Turns : Option Status → Telling → Scene → Stream → List ℕ → Scene → Stream → List ℕ → Type 0
@@ -185,6 +184,8 @@ WritesSome (Some status) tells before faults_before gathered now faults_now left
 abbrev pub status_of : Refusal → Status
 status_of refused_memory = Memory
 status_of refused_disk = Disk
+status_of refused_full = Full
+status_of refused_damaged = Damaged
 
 -- the replies were written, or the sink failed and took a first part of them
 abbrev pub Flushed : Bool → List ℕ → List ℕ → List ℕ → ℕ → ℕ → Type 0
@@ -208,10 +209,8 @@ StopsAtBad result tells before faults_before gathered now faults_now =
     ⊎ ((result ≡ Some Sink) × FailsOut tells before gathered now faults_before faults_now
     × (faults_before ≤ faults_now))
 
--- the store's numbers are no larger than what was read allows, and there is room for a piece
-pub record IsReady (c : Known) (x : Index) (stream : Stream) (piece : List ℕ) : Type 0 where
-  pub files : FitsWithin (46 * stream.offset) c
-  pub last : x.last ≤ stream.offset
+-- the reader may take no more than all, and there is room for a piece
+pub record IsReady (stream : Stream) (piece : List ℕ) : Type 0 where
   pub most : stream.most ≡ most_taken
   pub within : taken stream ≤ most_taken
   pub some : 0 < length piece

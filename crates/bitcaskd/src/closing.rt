@@ -1,33 +1,38 @@
 //! The end of a run: what was put is synced where the input was read as far as it goes.
-ghost use Rattle.std.specs.Prelude.{◌≡◌, ◌≤◌, IsTrue};
-ghost use Rattle.bitcaskd.specs.Closing.{ClosesBy, IsSyncedAt};
-ghost use Rattle.bitcaskd.specs.Store.{Stands};
+ghost use Rattle.std.specs.Prelude.{◌≡◌, ◌≤◌, OnErr, OnOk};
+ghost use Rattle.bitcaskd.specs.Closing.{ClosesBy, SyncsNot, SyncsWith};
 
-use crate::store::Store;
 use bk_base::Status;
-use bk_disk::Disk;
+use bk_disk::{Disk, Failed};
+use bk_store::Store;
 
-/// Syncs the data file after the input was read to its end, or as far as requests stand in it. A
-/// sync that fails changes the status of the first alone.
+/// Syncs all writes after the input was read to its end, or as far as requests stand in it. A sync
+/// that fails changes the status of the first alone.
 pub fn close<D: Disk>(store: &mut Store<D>, status: Status) -> Status
-    requires { IsSyncedAt status → IsTrue D.tells → Stands store.old.files.told
-        store.old.files.catalog store.old.index }
-    ensures image { IsTrue D.tells → store.new.files.told.image ≡
-        store.old.files.told.image }
-    ensures closes { ClosesBy D.tells status result store.new.files.told
-        store.old.files.faults store.new.files.faults }
+    ensures closes { ClosesBy D.tells status result store.old store.new }
     ensures views { store.new.files.fallible_views ≡ store.old.files.fallible_views }
     ensures later { store.old.files.faults ≤ store.new.files.faults }
 {
     match status {
-        Status::Done => match store.sync() {
-            Ok(_) => Status::Done,
+        Status::Done => match sync(store) {
+            Ok(()) => Status::Done,
             Err(_) => Status::Disk,
         },
         Status::NotBuilt => {
-            let _ = store.sync();
+            let _ = sync(store);
             Status::NotBuilt
         }
         ended => ended,
     }
+}
+
+/// One sync, as a step of the history.
+fn sync<D: Disk>(store: &mut Store<D>) -> Result<(), Failed>
+    ensures ok { OnOk result (SyncsWith D.tells store.old store.new) }
+    ensures err { OnErr result (SyncsNot D.tells store.old store.new) }
+    ensures views { store.new.files.fallible_views ≡ store.old.files.fallible_views }
+    ensures later { store.old.files.faults ≤ store.new.files.faults }
+{
+    store.sync()?;
+    Ok(())
 }

@@ -3,17 +3,14 @@
 //! `run` is the program; `main` gives it the words, the folder, the streams and the clock.
 #![tactic(auto)]
 
-mod appending;
 mod closing;
 mod help;
-mod index;
 mod input;
+mod opening;
 mod output;
-mod places;
 mod refusals;
 mod run;
 mod serving;
-mod store;
 mod talking;
 #[cfg(test)]
 mod tests;

@@ -5,9 +5,8 @@ ghost use Rattle.bitcaskd.specs.Found.{Finds};
 ghost use Rattle.bitcaskd.specs.Run.{IsBuilt, IsPipe, Refuses, Runs, outside, telling};
 
 use crate::closing::close;
-use crate::refusals::Refusal;
-use crate::store::Store;
-use crate::talking::{status_of, talk};
+use crate::opening::new_store;
+use crate::talking::talk;
 use bk_base::Status;
 use bk_disk::{Clock, Disk, DiskError, Sink, Source};
 use std::alloc::Global;
@@ -34,7 +33,8 @@ pub fn directory_of(words: &[String]) -> Option<usize>
 enum Found {
     Nothing,
     Files,
-    Refused(Refusal),
+    Failed,
+    Memory,
 }
 
 /// Looks for files of a store.
@@ -42,9 +42,10 @@ fn look<D: Disk>(disk: &mut D) -> Found
     ensures found { IsTrue D.tells → Finds result (D.told disk.old).image }
     ensures told { IsTrue D.tells → D.told disk.new ≡ D.told disk.old }
     ensures later { D.faults disk.old ≤ D.faults disk.new }
-    ensures refused { result ≡ Found.Refused Refusal.Disk → Rose (D.faults disk.old)
+    ensures failed { result ≡ Found.Failed → Rose (D.faults disk.old)
         (D.faults disk.new) }
     ensures views { D.fallible_views disk.new ≡ D.fallible_views disk.old }
+    ensures outs { D.fallible_outs disk.new ≡ D.fallible_outs disk.old }
 {
     match disk.list() {
         Ok(files) => {
@@ -54,8 +55,8 @@ fn look<D: Disk>(disk: &mut D) -> Found
                 Found::Files
             }
         }
-        Err(DiskError::Failed) => Found::Refused(Refusal::Disk),
-        Err(DiskError::Memory) => Found::Refused(Refusal::Memory),
+        Err(DiskError::Failed) => Found::Failed,
+        Err(DiskError::Memory) => Found::Memory,
     }
 }
 
@@ -68,10 +69,10 @@ fn over_disk<D: Disk, S: Source, K: Sink, C: Clock>(
     clock: &mut C,
 ) -> Ended<D>
     ensures ran { let tells = telling D.tells S.tells K.tells C.tells in
-        let old = outside (D.told disk) (D.faults disk) (D.fallible_views disk) (S.whole source.old)
-        (S.taken source.old) (K.written sink.old) (K.faults sink.old) (C.moments clock.old) in
+        let old = outside (D.told disk) (D.faults disk) (D.fallible_views disk) (D.fallible_outs disk)
+        (S.whole source.old) (S.taken source.old) (K.written sink.old) (K.faults sink.old) (C.moments clock.old) in
         let new = outside (D.told result.disk) (D.faults result.disk) (D.fallible_views result.disk)
-        (S.whole source.new) (S.taken source.new) (K.written sink.new) (K.faults sink.new)
+        (D.fallible_outs result.disk) (S.whole source.new) (S.taken source.new) (K.written sink.new) (K.faults sink.new)
         (C.moments clock.new) in
         Refuses tells old new result.status ⊎ Runs tells old new result.status }
     ensures built { IsBuilt result.status }
@@ -87,9 +88,13 @@ fn over_disk<D: Disk, S: Source, K: Sink, C: Clock>(
             disk,
             status: Status::NotBuilt,
         },
-        Found::Refused(refusal) => Ended {
+        Found::Failed => Ended {
             disk,
-            status: status_of(refusal),
+            status: Status::Disk,
+        },
+        Found::Memory => Ended {
+            disk,
+            status: Status::Memory,
         },
     }
 }
@@ -104,10 +109,10 @@ fn over_empty<D: Disk, S: Source, K: Sink, C: Clock>(
 ) -> Ended<D>
     requires { IsTrue D.tells → (D.told disk).image ≡ [] }
     ensures ran { let tells = telling D.tells S.tells K.tells C.tells in
-        let old = outside (D.told disk) (D.faults disk) (D.fallible_views disk) (S.whole source.old)
-        (S.taken source.old) (K.written sink.old) (K.faults sink.old) (C.moments clock.old) in
+        let old = outside (D.told disk) (D.faults disk) (D.fallible_views disk) (D.fallible_outs disk)
+        (S.whole source.old) (S.taken source.old) (K.written sink.old) (K.faults sink.old) (C.moments clock.old) in
         let new = outside (D.told result.disk) (D.faults result.disk) (D.fallible_views result.disk)
-        (S.whole source.new) (S.taken source.new) (K.written sink.new) (K.faults sink.new)
+        (D.fallible_outs result.disk) (S.whole source.new) (S.taken source.new) (K.written sink.new) (K.faults sink.new)
         (C.moments clock.new) in
         Runs tells old new result.status }
     ensures built { IsBuilt result.status }
@@ -117,11 +122,11 @@ fn over_empty<D: Disk, S: Source, K: Sink, C: Clock>(
         → Rose (S.faults source.old) (S.faults source.new) }
     ensures sink { result.status ≡ Status.Sink → Rose (K.faults sink.old) (K.faults sink.new) }
 {
-    let mut store = Store::new(alloc, disk);
+    let mut store = new_store(alloc, disk);
     let stopped = talk(alloc, &mut store, source, sink, clock);
     let status = close(&mut store, stopped);
     Ended {
-        disk: store.into_disk(),
+        disk: store.close(),
         status,
     }
 }
@@ -146,10 +151,10 @@ pub fn run<D: Disk, S: Source, K: Sink, C: Clock>(
     // Otherwise the run is refused before it reads anything, or it is one history, from the bytes
     // read to the bytes written.
     ensures ran { let tells = telling D.tells S.tells K.tells C.tells in
-        let old = outside (D.told disk) (D.faults disk) (D.fallible_views disk) (S.whole source.old)
-        (S.taken source.old) (K.written sink.old) (K.faults sink.old) (C.moments clock.old) in
+        let old = outside (D.told disk) (D.faults disk) (D.fallible_views disk) (D.fallible_outs disk)
+        (S.whole source.old) (S.taken source.old) (K.written sink.old) (K.faults sink.old) (C.moments clock.old) in
         let new = outside (D.told result.disk) (D.faults result.disk) (D.fallible_views result.disk)
-        (S.whole source.new) (S.taken source.new) (K.written sink.new) (K.faults sink.new)
+        (D.fallible_outs result.disk) (S.whole source.new) (S.taken source.new) (K.written sink.new) (K.faults sink.new)
         (C.moments clock.new) in
         IsPipe (map string_bytes words.now)
         → Refuses tells old new result.status ⊎ Runs tells old new result.status }

@@ -1,23 +1,22 @@
 //! The talk with a client: requests are read, served and answered until the input or the run ends.
-ghost use Rattle.std.specs.Prelude.{◌≡◌, ◌⊎◌, ◌↔◌, ◌+◌, ◌*◌, ◌<◌, ◌≤◌, ◌≢◌, [], Bool, None, Some, List, ℕ, length, IsTrue, IfOk, IfSome};
+ghost use Rattle.std.specs.Prelude.{◌≡◌, ◌⊎◌, ◌↔◌, ◌+◌, ◌*◌, ◌<◌, ◌≤◌, ◌≢◌, [], Bool, false, None, Some, List, ℕ, length, IsTrue, IfOk, IfSome};
 ghost use Rattle.bk_disk.specs.Causes.{Rose};
+ghost use Rattle.bk_disk.specs.Counts.{Counts};
 ghost use Rattle.bk_laws.specs.Session.{IsOffered};
-ghost use Rattle.bk_laws.specs.Wire.{Fits, IsPartial, request_text};
+ghost use Rattle.bk_laws.specs.Wire.{IsPartial};
 ghost use Rattle.bk_wire.specs.Stream.{taken};
 ghost use Rattle.bitcaskd.specs.Run.{IsBuilt, telling};
-ghost use Rattle.bitcaskd.specs.Shelf.{FitsWithin};
-ghost use Rattle.bitcaskd.specs.Store.{Holds, Stands};
 ghost use Rattle.bitcaskd.specs.Serving.{Site, site_of};
-ghost use Rattle.bitcaskd.specs.Talking.{Asks, Flushed, WritesSome, StopsAtBad, Turns, IsReady, Stopped, after_input, status_of, scene_of, work_left};
+ghost use Rattle.bitcaskd.specs.Talking.{Asks, Flushed, WritesSome, StopsAtBad, StopsFor, Turns, IsReady, after_input, status_of, scene_of, work_left};
 
 use crate::input::{Input, next_piece};
 use crate::output::flush;
 use crate::refusals::Refusal;
 use crate::serving::answer;
-use crate::store::Store;
 use bk_base::limits::LONGEST_SESSION;
 use bk_base::{Memory, Request, Status};
 use bk_disk::{Clock, Disk, Sink, Source};
+use bk_store::Store;
 use bk_wire::{Next, Reader};
 use std::alloc::Global;
 
@@ -53,24 +52,11 @@ fn ask<D: Disk, K: Sink, C: Clock>(
     sink: &mut K,
     request: Request,
 ) -> Option<Status>
-    requires stands { IsTrue D.tells → Stands store.old.files.told
-        store.old.files.catalog store.old.index }
-    requires fits { Fits request }
     requires offered { IsOffered request }
-    requires files { FitsWithin (46 * LONGEST_SESSION) store.old.files.catalog }
-    requires last { store.old.index.last + length (request_text request) ≤ LONGEST_SESSION }
-    ensures files { result ≡ None → (most : ℕ) → FitsWithin most store.old.files.catalog
-        → FitsWithin (most + 46 * length (request_text request)) store.new.files.catalog }
-    ensures last { result ≡ None → store.new.index.last ≤ store.old.index.last + length
-        (request_text request) }
-    ensures stands { result ≡ None → IsTrue D.tells → Stands
-        store.new.files.told store.new.files.catalog store.new.index }
     ensures turns { Asks result D.tells K.tells C.tells request
-        (site_of store.old.files.told store.old.files.catalog store.old.index
-        store.old.files.faults store.old.files.fallible_views (C.moments clock.old))
+        (site_of store.old (C.moments clock.old))
         (K.written sink.old) (K.faults sink.old) replies.old.items
-        (site_of store.new.files.told store.new.files.catalog store.new.index
-        store.new.files.faults store.new.files.fallible_views (C.moments clock.new))
+        (site_of store.new (C.moments clock.new))
         (K.written sink.new) (K.faults sink.new) replies.new.items }
     ensures disk { result ≡ Some Status.Disk → Rose store.old.files.faults
         store.new.files.faults ⊎ Rose store.old.files.fallible_views
@@ -78,6 +64,7 @@ fn ask<D: Disk, K: Sink, C: Clock>(
     ensures sink { result ≡ Some Status.Sink → Rose (K.faults sink.old) (K.faults sink.new) }
     ensures not_source { result ≢ Some Status.Source }
     ensures faults { store.old.files.faults ≤ store.new.files.faults }
+    ensures views { Counts false store.old.files.fallible_views store.new.files.fallible_views }
     ensures wrote { K.faults sink.old ≤ K.faults sink.new }
     ensures built { IfSome result IsBuilt }
 {
@@ -91,12 +78,14 @@ fn ask<D: Disk, K: Sink, C: Clock>(
 }
 
 /// The status of a run that ends by a refusal.
-pub fn status_of(refusal: Refusal) -> Status
+fn status_of(refusal: Refusal) -> Status
     ensures { result ≡ status_of refusal }
 {
     match refusal {
         Refusal::Memory => Status::Memory,
         Refusal::Disk => Status::Disk,
+        Refusal::Full => Status::Full,
+        Refusal::Damaged => Status::Damaged,
     }
 }
 
@@ -178,25 +167,18 @@ fn turn<D: Disk, S: Source, K: Sink, C: Clock>(
     sink: &mut K,
     clock: &mut C,
 ) -> Option<Status>
-    requires stands { IsTrue D.tells → Stands store.old.files.told
-        store.old.files.catalog store.old.index }
-    requires ready { IsReady store.old.files.catalog store.old.index desk.old.reader
-        desk.old.piece.items }
-    ensures stands { result ≡ None → IsTrue D.tells → Stands
-        store.new.files.told store.new.files.catalog store.new.index }
-    ensures ready { result ≡ None → IsReady store.new.files.catalog store.new.index
-        desk.new.reader desk.new.piece.items }
+    requires ready { IsReady desk.old.reader desk.old.piece.items }
+    ensures ready { result ≡ None → IsReady desk.new.reader desk.new.piece.items }
     ensures fewer { result ≡ None → work_left desk.new.reader < work_left desk.old.reader }
     ensures turns { Turns result (telling D.tells S.tells K.tells C.tells)
-        (scene_of (site_of store.old.files.told store.old.files.catalog store.old.index
-        store.old.files.faults store.old.files.fallible_views (C.moments clock.old))
+        (scene_of (site_of store.old (C.moments clock.old))
         (S.whole source.old) (S.taken source.old) (K.written sink.old)
         (K.faults sink.old)) desk.old.reader desk.old.replies.items
-        (scene_of (site_of store.new.files.told store.new.files.catalog store.new.index
-        store.new.files.faults store.new.files.fallible_views (C.moments clock.new))
+        (scene_of (site_of store.new (C.moments clock.new))
         (S.whole source.new) (S.taken source.new) (K.written sink.new)
         (K.faults sink.new)) desk.new.reader desk.new.replies.items }
     ensures faults { store.old.files.faults ≤ store.new.files.faults }
+    ensures views { Counts false store.old.files.fallible_views store.new.files.fallible_views }
     ensures disk { result ≡ Some Status.Disk → Rose store.old.files.faults
         store.new.files.faults ⊎ Rose store.old.files.fallible_views
         store.new.files.fallible_views }
@@ -270,16 +252,10 @@ pub fn talk<D: Disk, S: Source, K: Sink, C: Clock>(
     sink: &mut K,
     clock: &mut C,
 ) -> Status
-    requires holds { IsTrue D.tells → Holds store.old.files.told
-        store.old.files.catalog store.old.index [] }
-    requires files { FitsWithin 0 store.old.files.catalog }
-    requires last { store.old.index.last ≡ 0 }
-    ensures stopped { Stopped (telling D.tells S.tells K.tells C.tells)
-        (scene_of (site_of store.old.files.told store.old.files.catalog store.old.index
-        store.old.files.faults store.old.files.fallible_views (C.moments clock.old))
+    ensures stopped { StopsFor (telling D.tells S.tells K.tells C.tells)
+        (scene_of (site_of store.old (C.moments clock.old))
         (S.whole source.old) (S.taken source.old) (K.written sink.old) (K.faults sink.old))
-        (scene_of (site_of store.new.files.told store.new.files.catalog store.new.index
-        store.new.files.faults store.new.files.fallible_views (C.moments clock.new))
+        (scene_of (site_of store.new (C.moments clock.new))
         (S.whole source.new) (S.taken source.new) (K.written sink.new) (K.faults sink.new)) result }
     ensures faults { store.old.files.faults ≤ store.new.files.faults }
     ensures disk { result ≡ Status.Disk → Rose store.old.files.faults

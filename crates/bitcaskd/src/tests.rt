@@ -7,13 +7,24 @@ use bk_memdisk::{ListClock, MemDisk, MemSink, MemSource};
 use std::alloc::{AllocError, Global};
 use std::test::Fail;
 
-/// What a run is given and what it leaves.
-#[derive(Clone, Copy)]
-struct Row {
-    input: &'static [u8],
-    output: &'static [u8],
-    status: Status,
-}
+/// What a run is given and what it is to write, and its status.
+const ROWS: [(&str, &str, Status); 7] = [
+    ("", "", Status::Done),
+    (
+        "PUT 1 1\na1\nGET 1\na\n",
+        "OK 1\nVALUE 1\n1\n",
+        Status::Done,
+    ),
+    ("GET 1\na\nGET 0", "NONE\n", Status::NotBuilt),
+    ("PUT 65536 0\n", "", Status::NotBuilt),
+    ("PUT 1 16777217\n", "", Status::NotBuilt),
+    ("PUT 1 5\nabc", "", Status::NotBuilt),
+    (
+        "PUT 1 0\na\nPUT 1 1\nb2\nGET 1\na\nGET 1\nb\n",
+        "OK 1\nOK 2\nVALUE 0\n\nVALUE 1\n2\n",
+        Status::Done,
+    ),
+];
 
 /// What a run left.
 #[derive(Drop)]
@@ -23,19 +34,37 @@ struct Left {
     disk: MemDisk,
 }
 
-/// Runs `pipe d` over this disk, with 5 as each moment.
+impl Left {
+    /// The status, and the bytes that were written, as a text.
+    fn is(&self, output: &[u8], status: Status) -> bool {
+        self.status == status && self.output.as_slice() == output
+    }
+}
+
+/// The words `pipe d`.
+fn words(alloc: Global) -> Result<Vec<String>, AllocError> {
+    let mut words = Vec::new(alloc);
+    words.push(String::from_str(alloc, "pipe")?)?;
+    words.push(String::from_str(alloc, "d")?)?;
+    Ok(words)
+}
+
+/// A clock with 5 as each moment.
+fn at_five(alloc: Global) -> Result<ListClock, AllocError> {
+    let mut moments = Vec::new(alloc);
+    moments.push(Moment(5))?;
+    Ok(ListClock::new(moments))
+}
+
+/// Runs `pipe d` over this disk.
 fn pipe(
     alloc: Global,
     disk: MemDisk,
     mut source: MemSource,
     mut sink: MemSink,
 ) -> Result<Left, AllocError> {
-    let mut words = Vec::new(alloc);
-    words.push(String::from_str(alloc, "pipe")?)?;
-    words.push(String::from_str(alloc, "d")?)?;
-    let mut moments = Vec::new(alloc);
-    moments.push(Moment(5))?;
-    let mut clock = ListClock::new(moments);
+    let words = words(alloc)?;
+    let mut clock = at_five(alloc)?;
     let Ended { disk, status } = run(alloc, &words, disk, &mut source, &mut sink, &mut clock);
     let output = sink.bytes().to_vec(alloc)?;
     Ok(Left {
@@ -45,74 +74,35 @@ fn pipe(
     })
 }
 
-/// The same over an empty disk and streams that don't fail, read in pieces of so many bytes.
-fn answered(alloc: Global, input: Vec<u8>, most: usize) -> Result<Left, AllocError>
-    requires { 1 ≤ most }
-{
-    failing(
-        alloc,
-        MemDisk::new(alloc),
-        MemSource::new(input, None, most),
-        None,
-    )
-}
-
-/// The same, where the sink fails at this write.
-fn failing(
+/// The same, with a source that gives so many bytes at a read at most, and a sink that fails at this write.
+fn piped(
     alloc: Global,
     disk: MemDisk,
-    source: MemSource,
+    input: &[u8],
+    most: usize,
     sink_fails: Option<u64>,
-) -> Result<Left, AllocError> {
+) -> Result<Left, AllocError>
+    requires { 1 ≤ most }
+{
+    let source = MemSource::new(input.to_vec(alloc)?, None, most);
     match MemSink::new(alloc, 1_000, sink_fails) {
         Ok(sink) => pipe(alloc, disk, source, sink),
         Err(_) => Err(AllocError),
     }
 }
 
+/// The same over an empty disk, with a sink that doesn't fail.
+fn answered(alloc: Global, input: &[u8], most: usize) -> Result<Left, AllocError>
+    requires { 1 ≤ most }
+{
+    piped(alloc, MemDisk::new(alloc), input, most, None)
+}
+
 #[test]
 fn rows(rt: HostRuntime) -> Result<(), Fail> {
-    let rows = [
-        Row {
-            input: b"",
-            output: b"",
-            status: Status::Done,
-        },
-        Row {
-            input: b"PUT 1 1\na1\nGET 1\na\n",
-            output: b"OK 1\nVALUE 1\n1\n",
-            status: Status::Done,
-        },
-        Row {
-            input: b"GET 1\na\nGET 0",
-            output: b"NONE\n",
-            status: Status::NotBuilt,
-        },
-        Row {
-            input: b"PUT 65536 0\n",
-            output: b"",
-            status: Status::NotBuilt,
-        },
-        Row {
-            input: b"PUT 1 16777217\n",
-            output: b"",
-            status: Status::NotBuilt,
-        },
-        Row {
-            input: b"PUT 1 5\nabc",
-            output: b"",
-            status: Status::NotBuilt,
-        },
-        Row {
-            input: b"PUT 1 0\na\nPUT 1 1\nb2\nGET 1\na\nGET 1\nb\n",
-            output: b"OK 1\nOK 2\nVALUE 0\n\nVALUE 1\n2\n",
-            status: Status::Done,
-        },
-    ];
-    for row in rows {
-        let left = answered(rt.alloc(), row.input.to_vec(rt.alloc())?, 7)?;
-        assert_eq!(rt; left.status, row.status);
-        assert_eq!(rt; left.output.as_slice(), row.output);
+    for (input, output, status) in ROWS {
+        let left = answered(rt.alloc(), input.as_bytes(), 7)?;
+        assert!(rt; left.is(output.as_bytes(), status));
     }
     Ok(())
 }
@@ -124,7 +114,7 @@ const RECORD: [u8; 24] = [
 
 #[test]
 fn data_file(rt: HostRuntime) -> Result<(), Fail> {
-    let left = answered(rt.alloc(), b"PUT 1 1\na1\n".to_vec(rt.alloc())?, 1)?;
+    let left = answered(rt.alloc(), b"PUT 1 1\na1\n", 1)?;
     let name = Name {
         id: 1,
         kind: Kind::Main,
@@ -134,46 +124,49 @@ fn data_file(rt: HostRuntime) -> Result<(), Fail> {
     Ok(())
 }
 
-/// A put of this key's length and this value's length.
-fn large_put(alloc: Global, header: &str, len: usize) -> Result<Vec<u8>, AllocError> {
+/// Whether a put of this key's length and this value's length is answered.
+fn takes_large_put(alloc: Global, header: &str, len: usize) -> Result<bool, AllocError> {
     let mut text = header.as_bytes().to_vec(alloc)?;
     let body: Vec<u8> = vec![in alloc; b'x'; len]?;
     text.extend_from_slice(body.as_slice())?;
     text.push(b'\n')?;
-    Ok(text)
+    let left = answered(alloc, text.as_slice(), 65_536)?;
+    Ok(left.is(b"OK 1\n", Status::Done))
 }
 
 #[test]
 fn largest(rt: HostRuntime) -> Result<(), Fail> {
-    let key = large_put(rt.alloc(), "PUT 65535 0\n", 65_535)?;
-    let left = answered(rt.alloc(), key, 65_536)?;
-    assert_eq!(rt; left.status, Status::Done);
-    assert_eq!(rt; left.output.as_slice(), b"OK 1\n".as_slice());
-    let value = large_put(rt.alloc(), "PUT 1 16777216\n", 16_777_217)?;
-    let left = answered(rt.alloc(), value, 65_536)?;
-    assert_eq!(rt; left.status, Status::Done);
-    assert_eq!(rt; left.output.as_slice(), b"OK 1\n".as_slice());
+    assert!(rt; takes_large_put(rt.alloc(), "PUT 65535 0\n", 65_535)?);
+    assert!(rt; takes_large_put(rt.alloc(), "PUT 1 16777216\n", 16_777_217)?);
+    Ok(())
+}
+
+const GET: &[u8] = b"GET 1\na\n";
+
+#[test]
+fn failing_source(rt: HostRuntime) -> Result<(), Fail> {
+    let alloc = rt.alloc();
+    let source = MemSource::new(GET.to_vec(alloc)?, Some(2), 1_000);
+    let sink = MemSink::new(alloc, 1_000, None).map_err(|_| AllocError)?;
+    let left = pipe(alloc, MemDisk::new(alloc), source, sink)?;
+    assert!(rt; left.is(b"NONE\n", Status::Source));
     Ok(())
 }
 
 #[test]
-fn faults(rt: HostRuntime) -> Result<(), Fail> {
+fn failing_sink(rt: HostRuntime) -> Result<(), Fail> {
     let alloc = rt.alloc();
-    let cut = MemSource::new(b"GET 1\na\n".to_vec(alloc)?, Some(2), 1_000);
-    let left = failing(alloc, MemDisk::new(alloc), cut, None)?;
-    assert_eq!(rt; left.status, Status::Source);
-    assert_eq!(rt; left.output.as_slice(), b"NONE\n".as_slice());
+    let left = piped(alloc, MemDisk::new(alloc), GET, 1_000, Some(1))?;
+    assert!(rt; left.is(b"", Status::Sink));
+    Ok(())
+}
 
-    let whole = MemSource::new(b"GET 1\na\n".to_vec(alloc)?, None, 1_000);
-    let left = failing(alloc, MemDisk::new(alloc), whole, Some(1))?;
-    assert_eq!(rt; left.status, Status::Sink);
-    assert!(rt; left.output.is_empty());
-
-    let mut unlisted = MemDisk::new(alloc);
-    assert!(rt; unlisted.fail(1, 0).is_ok());
-    let unread = MemSource::new(b"GET 1\na\n".to_vec(alloc)?, None, 1_000);
-    let left = failing(alloc, unlisted, unread, None)?;
-    assert_eq!(rt; left.status, Status::Disk);
-    assert!(rt; left.output.is_empty());
+#[test]
+fn failing_listing(rt: HostRuntime) -> Result<(), Fail> {
+    let alloc = rt.alloc();
+    let mut disk = MemDisk::new(alloc);
+    assert!(rt; disk.fail(1, 0).is_ok());
+    let left = piped(alloc, disk, GET, 1_000, None)?;
+    assert!(rt; left.is(b"", Status::Disk));
     Ok(())
 }

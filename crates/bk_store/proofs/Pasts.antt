@@ -1,12 +1,12 @@
 -- What each call on the files keeps of the moments so far.
-use Rattle.std.proofs.Common.{◌≡◌, ◌∙◌, ℕ, ◌≤◌, ◌⊎◌, List, [], ◌∷◌, ◌++◌, length, get_or, Bool, true, false, Option, Some, None, refl, sym, ap, arith, inl, inr, length-append}
+use Rattle.std.proofs.Common.{◌≡◌, ◌∙◌, ℕ, ◌≤◌, ◌⊎◌, List, [], ◌∷◌, length, get_or, Bool, true, false, Option, Some, None, refl, sym, ap, arith, inl, inr}
 use Rattle.std.specs.Prelude.{IsTrue}
 use Rattle.std.proofs.lemmas.List.{get_or_past, get_or_append_left, get_or_default, get_or_push}
 use Rattle.std.proofs.lemmas.Bool.{cases_lt}
 use Rattle.bk_disk.specs.Told.{Front, Table, Told, clock}
 use Rattle.bk_disk.specs.Calls.{Passes}
 use Rattle.bk_disk.specs.Crashes.{fronts_at}
-use Rattle.bk_disk.proofs.Moments.{later, now}
+use Rattle.bk_disk.proofs.Moments.{later}
 use Rattle.bk_files.specs.declared.catalog.Active.{Active}
 use Rattle.bk_files.specs.Catalog.{Known}
 use Rattle.bk_files.specs.Files.{HalfRepaired, HalfRepairedOf, HalfRolledOf, IsConsistent, Repaired, RepairedOf, RolledOf, Seen, SettledOf, Synchronized}

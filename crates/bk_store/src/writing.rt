@@ -17,6 +17,9 @@ use bk_files::Files;
 use bk_keydir::Keydir;
 use bk_record::encode;
 
+/// The most room that is kept for the next record.
+const KEPT: usize = 262_144;
+
 /// Makes the record of a write in `buffer`, appends it, and puts its version. The answer is whether a
 /// new file was made.
 pub(crate) fn append_write<D: Disk>(
@@ -43,7 +46,16 @@ pub(crate) fn append_write<D: Disk>(
     let place = append_record(files, buffer.as_slice())?;
     let version = version_of(&write, place, buffer.as_slice());
     put_version(files, keydir, write.key, version);
+    give_back(buffer);
     Ok(place.rolled)
+}
+
+// Gives back the room that a large record took.
+fn give_back(buffer: &mut Vec<u8>) {
+    if buffer.capacity() > KEPT {
+        buffer.clear();
+        buffer.shrink_to_fit();
+    }
 }
 
 // The version of a write whose record was appended at this place.

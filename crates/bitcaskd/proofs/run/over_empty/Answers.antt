@@ -1,24 +1,24 @@
-use Rattle.std.proofs.Common.{◌∙◌, ap, refl}
+use Rattle.std.proofs.Common.{◌∙◌, [], ap, refl}
 use Rattle.bk_disk.specs.Told.{Told}
-use Rattle.bitcaskd.specs.Serving.{site_of}
+use Rattle.bk_policy.specs.declared.settings.Settings.{Settings}
+use Rattle.bk_store.specs.Starting.{opening_of}
 use Rattle.bitcaskd.proofs.ClosingLaws.{closed}
 use Rattle.bitcaskd.proofs.run.over_empty.Goals as goal
 
 pub returns-clause-ran : goal.returns-clause-ran
 returns-clause-ran g c =
     rw (
-      c.into_disk.ensures.told,
-      c.into_disk.ensures.faults,
-      c.into_disk.ensures.views,
-      ← c.new-store.ensures.told,
-      ← c.new-store.ensures.faults,
-      ← c.new-store.ensures.views,
+      c.close.ensures.told,
+      c.close.ensures.faults,
+      c.close.ensures.views,
+      c.close.ensures.outs,
+      ← c.new_store-store.ensures.told,
+      ← c.new_store-store.ensures.faults,
+      ← c.new_store-store.ensures.views,
+      ← c.new_store-store.ensures.outs,
     )
-    (closed _ _ _
-    (site_of c.close-status.new.store.files.told c.close-status.new.store.files.catalog
-    c.close-status.new.store.index c.close-status.new.store.files.faults
-    c.close-status.new.store.files.fallible_views (g.C.Clock.moments c.talk-stopped.new.clock))
-    c.talk-stopped.result c.close-status.result c.talk-stopped.ensures.stopped
-    (λ tells. ap (λ (t : Told). t.image) c.new-store.ensures.told ∙ c.requires tells)
-    c.close-status.ensures.closes c.close-status.ensures.image c.close-status.ensures.later
-    c.close-status.ensures.views refl)
+    (closed _ [] _ _ c.close-status.new.store c.talk-stopped.result c.close-status.result
+    (c.talk-stopped.ensures.stopped (opening_of [] c.new_store-store.result) c.new_store-store.ensures.stands)
+    (record { log = refl; folds = refl; ttl = ap (λ (s : Settings). s.ttl) c.new_store-store.ensures.settings })
+    (λ tells. ap (λ (t : Told). t.image) c.new_store-store.ensures.told ∙ c.requires tells)
+    c.close-status.ensures.closes)

@@ -3,11 +3,6 @@ use Rattle.bitcaskd.specs.Talking.{Flushed}
 use Rattle.bitcaskd.proofs.TalkingLaws.{asks_on, asks_no_more}
 use Rattle.bitcaskd.proofs.talking.ask.Goals as goal
 
-pub returns-in-Ok-clause-stands : goal.returns-in-Ok-clause-stands
-returns-in-Ok-clause-stands g c = λ none tells.
-    let (log, holds) = c.requires.stands tells in
-    let (later, leads, held) = c.in-Ok.ensures.ok.served.goes tells log holds in (later, held)
-
 pub returns-in-Ok-clause-turns : goal.returns-in-Ok-clause-turns
 returns-in-Ok-clause-turns g c =
     asks_on c.write_if_many.result _ _ _ c.args.request _ _ _ _ _ c.answer.new.replies.items _ _ _

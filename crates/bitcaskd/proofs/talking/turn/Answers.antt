@@ -20,8 +20,8 @@ returns-in-Ok-Bad-clause-turns g c =
     c.stop_at_bad-in-Ok-Bad.ensures
 
 pub returns-in-Err-clause-turns : goal.returns-in-Err-clause-turns
-returns-in-Err-clause-turns g c = λ start served so.
-    memory_ends _ start _ c.args.desk.now.reader _ _ _ served so c.write_last.ensures.flushed
+returns-in-Err-clause-turns g c = λ o start served so.
+    memory_ends _ o start _ c.args.desk.now.reader _ _ _ served so c.write_last.ensures.flushed
 
 pub returns-else-is_offered-clause-turns : goal.returns-else-is_offered-clause-turns
 returns-else-is_offered-clause-turns g c =
