@@ -1,0 +1,15 @@
+pub mod Events
+pub mod Bodies
+pub mod Stretches
+pub mod Tries
+pub mod OkLines
+pub mod OneCaller
+pub mod LiveReplies
+pub mod EndFacts
+pub mod SessionExamples
+pub mod ExchangeExamples
+pub mod WholeListings
+pub mod Causes
+pub mod OwnEvents
+pub mod Refused
+pub mod BodyExamples
