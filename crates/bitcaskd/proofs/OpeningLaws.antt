@@ -50,5 +50,5 @@ load_of t l well n empty = record {
   };
   totals = subst (λ (rows : List Row). AreFromScratch rows t) (sym n.rows) tt;
   counts = λ id r is. absurd (no_row l.rows.items id r n.rows is);
-  covered = λ id none. ap (λ (i : Image). bytes_of (main id) i) empty;
+  covered = λ id first none. ap (λ (i : Image). bytes_of (main id) i) empty;
 }
