@@ -37,7 +37,7 @@ static Key16 key_of(uint32_t number) {
     return key;
 }
 
-static Version version_of(uint64_t seq, int gone) {
+static inline Version version_of(uint64_t seq, int gone) {
     return (Version){ seq, seq, 5, 1, 138, 7, (uint8_t)gone };
 }
 
