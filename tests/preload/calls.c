@@ -8,7 +8,8 @@
                  read, pread, fsync, fdatasync, getdents, ftruncate, rename, unlink.
 
    WHAT is EIO, ENOSPC or EINTR: the call isn't made and answers that error; or `short`: it is made with half
-   of the bytes (of a directory, with room for few entries). The others pretend that the program is wrong:
+   of the bytes (of a directory, with room for few entries); or `stop`: the program ends right before it, with
+   status 125. The others pretend that the program is wrong:
    `skip` answers 0 and neither makes nor logs the call; `overwrite` opens without O_APPEND; `restart` is
    `short`, and where the next write is for the rest, all bytes are written again from their start. */
 
@@ -29,9 +30,9 @@ static const char *const kind_names[KINDS] = {
     "open", "write", "pwrite", "read", "pread", "fsync", "fdatasync", "getdents", "ftruncate", "rename", "unlink",
 };
 
-enum what { NOTHING, FAIL_EIO, FAIL_ENOSPC, FAIL_EINTR, SHORT, SKIP, OVERWRITE, RESTART, WHATS };
+enum what { NOTHING, FAIL_EIO, FAIL_ENOSPC, FAIL_EINTR, SHORT, STOP, SKIP, OVERWRITE, RESTART, WHATS };
 static const char *const what_names[WHATS] = {
-    "", "EIO", "ENOSPC", "EINTR", "short", "skip", "overwrite", "restart",
+    "", "EIO", "ENOSPC", "EINTR", "short", "stop", "skip", "overwrite", "restart",
 };
 
 #define FEW_ENTRIES 320 /* bytes: the largest entry fits */
@@ -134,8 +135,11 @@ static enum what choose(enum kind kind)
 {
     int nth = __atomic_add_fetch(&counts[kind], 1, __ATOMIC_SEQ_CST);
     for (int i = 0; i < fault_count; i++)
-        if (faults[i].kind == kind && (faults[i].nth == nth || !faults[i].nth))
+        if (faults[i].kind == kind && (faults[i].nth == nth || !faults[i].nth)) {
+            if (faults[i].what == STOP)
+                _exit(125);
             return faults[i].what;
+        }
     return NOTHING;
 }
 
