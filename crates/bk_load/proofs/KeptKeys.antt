@@ -13,7 +13,7 @@ use Rattle.bk_keydir.specs.Keydir.{Entry, is_lone_gone, newest_of, versions_of, 
 use Rattle.bk_store.specs.Shown.{IsFit}
 use Rattle.bk_load.specs.Learning.{IsLone, IsLoneEntry}
 use Rattle.bk_load.specs.Loads.{AreLone, put_if}
-use Rattle.bk_load.proofs.Keys.{key_is, key_refl, key_sym}
+use Rattle.bk_store.proofs.Keys.{key_is, key_refl, key_sym}
 
 -- a key that isn't among them has no version
 absent_kept : (key : List ℕ) (es : List Entry) → AllByRecursion (λ k. bytes_eq key k ≡ false) (keys_of es)

@@ -12,7 +12,7 @@ use Rattle.bk_keydir.specs.Keydir.{Entry, IsNewer, IsNewerThan, Shown, keeps_new
 use Rattle.bk_keydir.specs.Counts.{PutCounts, bytes_in, live_of}
 use Rattle.bk_keydir.specs.Slots.{IsOpen, has_open, is_seen, slot_at}
 use Rattle.bk_load.specs.Learning.{AreFit, FitsVersion, Grows, IsLone, IsLoneEntry, Learns, greatest, if_of, newer, newest_in}
-use Rattle.bk_load.proofs.Keys.{key_is, key_sym, newest_put}
+use Rattle.bk_store.proofs.Keys.{key_is, key_sym, newest_put}
 
 -- Of three versions the newest is found in either order of tests
 

@@ -1,4 +1,3 @@
-pub mod Keys
 pub mod Learned
 pub mod Tidied
 pub mod Going

@@ -68,7 +68,8 @@ pub there_listed : (image : Image) (files : List Listed) (n : Name) → files �
     → IsListed files n
 there_listed image files n is there =
     let (bytes, here) = there_some (at image n) there in
-    (record { name = n; len = length bytes }, subst (λ (fs : List Listed). In (record { name = n; len = length bytes }) fs) (sym is) (is_listed image n bytes here), refl)
+    let f : Listed = record { name = n; len = length bytes } in
+    (f, subst (λ (fs : List Listed). In f fs) (sym is) (is_listed image n bytes here), refl)
 
 -- the range that is the whole file
 

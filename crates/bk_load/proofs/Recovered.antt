@@ -44,7 +44,7 @@ use Rattle.bk_load.specs.Tidying.{CountsWith, Tidied}
 use Rattle.bk_load.proofs.Counted.{all_rows, some_counted}
 use Rattle.bk_load.proofs.KeptKeys.{all_in}
 use Rattle.bk_load.proofs.KeptLogs.{counts_bytes, tidied_sound}
-use Rattle.bk_load.proofs.Keys.{key_is, key_same, key_sym}
+use Rattle.bk_store.proofs.Keys.{key_is, key_same, key_sym}
 use Rattle.bk_load.proofs.Tidied.{counts_own, own_name}
 
 -- ---- the newest of some versions

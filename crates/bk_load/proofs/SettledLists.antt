@@ -107,7 +107,9 @@ list_done q r s x stands named lost = record {
   list = has_list s x stands;
   no_main = lost.mains;
   no_temp = lost.temps;
-  named = λ id is_in there. go id (lost.kept (main id)) (named.named id is_in (there_before (numbers x.list.inputs.items) r s (main_temp id) (lost.kept (main_temp id)) there));
+  named = λ id is_in there.
+      let before = there_before (numbers x.list.inputs.items) r s (main_temp id) (lost.kept (main_temp id)) there in
+      go id (lost.kept (main id)) (named.named id is_in before);
 } where
   go : (id : ℕ) → IsKeptOr (numbers x.list.inputs.items) (r (main id)) (s (main id)) (main id)
       → IsThere r (main id) ⊎ IsInput r id → IsThere s (main id) ⊎ IsInput s id

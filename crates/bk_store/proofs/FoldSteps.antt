@@ -274,8 +274,8 @@ pair_finds v slot s log f key position l apart stands n is_key lends bytes =
 -- it has given its next pair
 pub pair_keeps : (tells : Bool) (v u : Shown) (who slot : ℕ) (s : Slot) (key : List ℕ) (l : Lent)
     → IsDistinct bytes_eq (keys_of v.keys.entries) → slot_at v.keys.slots slot ≡ Some s → s.who ≡ who → (p : ListsPair slot s v u key l)
-    → l.left ≡ range_of (main p.next.version.file.0) p.next.version.at p.next.version.size v.files.told.image → FilesStay v.files u.files → u.seq ≡ v.seq
-    → u.settings ≡ v.settings → Keeps tells (entry_by who (FoldNext slot) (Pair key (drop l.value_at l.left))) v u
+    → l.left ≡ range_of (main p.next.version.file.0) p.next.version.at p.next.version.size v.files.told.image
+    → FilesStay v.files u.files → u.seq ≡ v.seq → u.settings ≡ v.settings → Keeps tells (entry_by who (FoldNext slot) (Pair key (drop l.value_at l.left))) v u
 unfolding with_folds folds_next with_slots
 pair_keeps tells v u who slot s key l apart there by p left stay seq settings =
     fold_event tells v u (entry_by who (FoldNext slot) (Pair key (drop l.value_at l.left))) settings seq (λ o h left. refl) reply content where

@@ -90,7 +90,8 @@ get_reply (Some l) = Found (drop l.value_at l.left)
 abbrev pub IsReadError : Bool → Lent → Lent → List ℕ → ReadError → Type 0
 IsReadError tells old new into Read = Rose old.faults new.faults
 IsReadError tells old new into (Damaged at file kept found) =
-    (at ≡ old.at) × (file ≡ old.file) × (kept ≡ old.crc) × (found ≡ check_of into) × (found ≡ kept → ⊥) × (IsTrue tells → into ≡ old.left)
+    (at ≡ old.at) × (file ≡ old.file) × (kept ≡ old.crc) × (found ≡ check_of into) × (found ≡ kept → ⊥)
+    × (IsTrue tells → into ≡ old.left)
 
 -- the version, where it is a put that is live
 abbrev pub live_if : Bool → Option Version → Option Version

@@ -17,8 +17,18 @@ use Rattle.bk_load.proofs.files.read_files.Given as goal
 abbrev pub invariant-files : goal.invariant-files
 invariant-files g l = record {
   came : Came g.D.Disk.tells
-      (record { told = g.D.Disk.told l.fn.disk; faults = g.D.Disk.faults l.fn.disk; views = g.D.Disk.fallible_views l.fn.disk; outs = g.D.Disk.fallible_outs l.fn.disk })
-      (record { told = g.D.Disk.told l.disk; faults = g.D.Disk.faults l.disk; views = g.D.Disk.fallible_views l.disk; outs = g.D.Disk.fallible_outs l.disk });
+      (record {
+        told = g.D.Disk.told l.fn.disk;
+        faults = g.D.Disk.faults l.fn.disk;
+        views = g.D.Disk.fallible_views l.fn.disk;
+        outs = g.D.Disk.fallible_outs l.fn.disk;
+      })
+      (record {
+        told = g.D.Disk.told l.disk;
+        faults = g.D.Disk.faults l.disk;
+        views = g.D.Disk.fallible_views l.disk;
+        outs = g.D.Disk.fallible_outs l.disk;
+      });
   image : IsTrue g.D.Disk.tells → (g.D.Disk.told l.disk).image ≡ (g.D.Disk.told l.fn.disk).image;
   fit : AreFit l.fn.learned → AreFit l.learned;
   ids : found_ids l.found.items ≡ ids_of (take l.main-index l.main-items);
