@@ -313,6 +313,7 @@ close image fronts books (Some a) settled recent tried core settled_all =
 
 -- A new data file that no list names, or one that stood there empty. It counts, and holds nothing.
 pub record IsNew (id : ℕ) (active : Option ActiveFile) (t : Told) : Type 0 where
+  pub first : 1 ≤ id
   pub other : IsOther active (main id)
   pub empty : bytes_of (main id) t.image ≡ []
   pub ours : (f : Front) → at t.fronts (main id) ≡ Some f → f.lent ≡ false
@@ -353,7 +354,8 @@ stood_empty t books active settled recent tried id well core is_new there =
     (sym (rests.reads ours)) ∙ is_new.empty in
     let reads : synced_of t.fronts (main id) ≡ Some [] =
     ap (option_map (λ (f : Front). f.synced)) is ∙ ap Some empty in
-    let counts : Counts (synced_of t.fronts) (main id) = (ap is_some reads, is_new.no_input) in
+    let counts : Counts (synced_of t.fronts) (main id) =
+    (ap is_some reads, is_new.no_input, is_new.first) in
     let are : AreRecords [] (books (main id)) =
     subst (λ (o : Option (List ℕ)). AreRecords (unwrap_or o []) (books (main id))) reads
     (core.safe.recovers.reads (main id) counts) in
@@ -426,6 +428,7 @@ new_made old new books active settled recent tried id well core is_new b absent 
       counts = λ a is counts. (
         ap is_some (others (main a.id) (parted active (main id) is_new.other a is)) ∙ counts.0,
         λ input. counts.1 (input_kept s r a.id (lists_stayed id r s others) input),
+        counts.2,
       );
       no_hint = λ a is none. (one.others (hint a.id) (hint_apart a.id id)).front ∙ none;
       book = λ a is. rw (parted active (main id) is_new.other a is) refl;
@@ -530,6 +533,7 @@ core_rolled old new books active settled id well core is_new b =
         ap is_some reads,
         λ input. is_new.no_input
             (input_kept s r id (lists_stayed id r s (synced_others (main id) old new but)) input),
+        is_new.first,
       );
       no_hint = (but (hint id) (hint_apart id id)).front ∙ is_new.no_hint;
       synced = empty ∙ ap records_of (sym book);

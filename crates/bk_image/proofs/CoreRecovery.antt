@@ -259,6 +259,7 @@ module _ {old new : Told} {books : Books} {active : Option ActiveFile}
         counts = λ a is counts. (
           ap is_some (others (main a.id) (parted active n other a is)) ∙ counts.0,
           λ input. counts.1 (input_before n r s a.id gone others input),
+          counts.2,
         );
         no_hint = λ a _ none. still_no_hint n a.id old new one.others (λ _. one.front) none;
         book = λ a _. refl;
@@ -383,6 +384,7 @@ module _ {old new : Told} {books : Books} {active : Option ActiveFile}
         counts = λ a is counts. (
           ap is_some (others (main a.id) (parted active n other a is)) ∙ counts.0,
           λ input. counts.1 (input_kept s r a.id lists input),
+          counts.2,
         );
         no_hint = λ a _ none.
             (but (hint a.id) (other_kind (hint a.id) n kinds.hint_apart_from)).front
@@ -453,6 +455,7 @@ module _ {old new : Told} {books : Books} {active : Option ActiveFile}
           ap is_some (others (main a.id) (parted active own other a is)
               (other_kind (main a.id) temp refl)) ∙ counts.0,
           λ input. counts.1 (input_kept s r a.id lists input),
+          counts.2,
         );
         no_hint = λ a _ none. (two.others (hint a.id) (other_kind (hint a.id) temp refl)
             (hint_apart a.id id)).front ∙ none;

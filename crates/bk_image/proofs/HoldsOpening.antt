@@ -13,11 +13,12 @@ use Rattle.bk_disk.specs.Told.{Front, Image, IsAbsent, IsWell, Told, at}
 use Rattle.bk_disk.specs.Crashes.{IsSynced, front_of}
 use Rattle.bk_disk.proofs.Leaves.{whole_fronts}
 use Rattle.bk_image.specs.Readings.{main, swap, synced_of}
-use Rattle.bk_image.specs.CountedFiles.{Counts, CountsAs, HasNoList, IsInput, IsOutput}
+use Rattle.bk_image.specs.CountedFiles.{CountsAs, HasNoList, IsInput, IsOutput}
 use Rattle.bk_image.specs.Core.{Core, RestsAt}
 use Rattle.bk_image.specs.Holds.{AreFree, Holds, IsIdle, IsYoungest, Shape, Young, shape_of}
 use Rattle.bk_image.specs.RecoveredLog.{Safe}
 use Rattle.bk_image.specs.SoundDirectory.{IsSoundDisk}
+use Rattle.bk_image.proofs.OneLog.{none_sound}
 use Rattle.bk_image.proofs.OneName.{none_of}
 use Rattle.bk_image.proofs.Places.{input_kept, list_kept, output_kept}
 use Rattle.bk_image.proofs.SafeMoves.{safe_as}
@@ -145,19 +146,6 @@ pub sound_empty : {t : Told} → IsWell t → IsSynced t → ((id : ℕ) → IsA
     → HasNoList (at t.image) → IsSoundDisk t []
 sound_empty {t} well synced absent no_list = record {
   well = well;
-  sound = record {
-    books = λ n. [];
-    recovers = record {
-      reads = λ n c. absurd (none n c);
-      once = λ n c. tt;
-      apart = λ n m w c d p q. absurd p;
-      rising = tt;
-      from = λ w is_in. absurd is_in;
-      all = λ n w c is_in. is_in;
-    };
-    hints = λ n bytes c is. absurd (none n c);
-  };
+  sound = none_sound t.image (λ n c. no_counts t.image absent no_list n.kind n.id c);
   synced = synced;
-} where
-  none : (n : Name) → Counts (at t.image) n → ⊥
-  none n c = no_counts t.image absent no_list n.kind n.id c
+}

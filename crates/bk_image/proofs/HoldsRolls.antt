@@ -128,6 +128,7 @@ is_new : {J : Shape → Type 0} {t : Told} {active : Option ActiveFile} {last : 
     {kept : ℕ} {tried : List Write} (id : ℕ) → last < id → Holds J t active last log kept tried
     → IsNew id active t
 is_new {t = t} {active = active} {last = last} id above h = record {
+  first = omega (arith, above);
   other = above_active active (main id) last above h.within;
   empty = h.free.empty id above;
   ours = λ f is. h.free.ours id f above is;

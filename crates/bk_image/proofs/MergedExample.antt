@@ -123,7 +123,8 @@ counted_as kind id c = absurd c
 
 file_2_counts : Counts (at merged) (main 2)
 unfolding same
-file_2_counts = (refl, λ input. let is : 2 ≡ 1 = input_is_1 2 input in absurd (omega arith))
+file_2_counts =
+    (refl, λ input. let is : 2 ≡ 1 = input_is_1 2 input in absurd (omega arith), omega arith)
 
 no_file_4 : IsThere (at merged) (main 4) → ⊥
 unfolding same
@@ -139,6 +140,7 @@ output_counts = (
   (list, list_stands, inl refl),
   λ input. let is : 4 ≡ 1 = input_is_1 4 input in absurd (omega arith),
   no_file_4,
+  omega arith,
 )
 
 abbrev merged_books : Books

@@ -31,7 +31,8 @@ use Rattle.bk_image.specs.Chance.{Begins, IsKept, NoChanceIn}
 use Rattle.bk_image.specs.Prefix.{Prefix}
 use Rattle.bk_image.specs.SoundDirectory.{IsSound}
 use Rattle.bk_image.proofs.Chances.{all_records, begins_from, begins_left, begins_right}
-use Rattle.bk_image.proofs.Places.{other_kind}
+use Rattle.bk_image.proofs.OneLog.{none_sound}
+use Rattle.bk_image.proofs.Places.{counts_first, other_kind}
 use Rattle.bk_image.proofs.SafeSteps.{once_rising}
 
 -- ---- writes
@@ -91,12 +92,13 @@ module _ (id : ℕ) (bytes : List ℕ) where
   here : at alone (main id) ≡ Some bytes
   here = ap (λ (b : Bool). cond b (Some bytes) None) (same_refl (main id))
 
-  counts : Counts (at alone) (main id)
-  counts = (ap is_some here, λ input. no_list input.1.id input.1.bytes input.1.there)
+  counts : 1 ≤ id → Counts (at alone) (main id)
+  counts first =
+      (ap is_some here, λ input. no_list input.1.id input.1.bytes input.1.there, first)
 
   -- It holds the log of its records.
-  one_file : (log : List Write) → AreRecords bytes log → IsLog log → IsSound alone log
-  one_file log are rises = record {
+  one_file : 1 ≤ id → (log : List Write) → AreRecords bytes log → IsLog log → IsSound alone log
+  one_file first log are rises = record {
     books = λ n. log;
     recovers = record {
       reads = λ n c.
@@ -105,7 +107,7 @@ module _ (id : ℕ) (bytes : List ℕ) where
       once = λ n c. once_rising 0 log rises;
       apart = λ n m w c d p q. only_as n.kind n.id c ∙ sym (only_as m.kind m.id d);
       rising = rises;
-      from = λ w is_in. (main id, counts, is_in);
+      from = λ w is_in. (main id, counts first, is_in);
       all = λ n w c is_in. is_in;
     };
     hints = λ n b c is.
@@ -113,6 +115,15 @@ module _ (id : ℕ) (bytes : List ℕ) where
         sym (not_there (hint n.id) (other_kind (hint n.id) (main id) refl)) ∙ is in
         absurd (cc none);
   }
+
+-- ---- one numbered 0 doesn't count, whatever it holds
+
+file_zero : (bytes : List ℕ) → IsSound ((main 0, bytes) ∷ []) []
+file_zero bytes =
+    none_sound (alone 0 bytes)
+    (λ n c.
+    let is : n.id ≡ 0 = ap (λ (m : Name). m.id) (only_as 0 bytes n.kind n.id c) in
+    omega (arith, counts_first (at (alone 0 bytes)) n c, is))
 
 -- ---- PUT a 1: a file of 24 bytes, and its log
 
@@ -127,8 +138,8 @@ unfolding record_of covered_of fields_of checksum_of
 one_put_len = refl
 
 one_put : IsSound ((main 1, records_of (a1 ∷ [])) ∷ []) (a1 ∷ [])
-one_put = one_file 1 (records_of (a1 ∷ [])) (a1 ∷ []) (all_records (a1 ∷ []) (a1_fits, tt))
-    (omega arith, tt)
+one_put = one_file 1 (records_of (a1 ∷ [])) (omega arith) (a1 ∷ [])
+    (all_records (a1 ∷ []) (a1_fits, tt)) (omega arith, tt)
 
 -- ---- the delete of a key whose value is empty: 46 bytes, and nothing in the map
 
@@ -159,7 +170,7 @@ one_delete =
     let second : IsWritable a_gone =
     record { seq = (omega arith, omega arith); moment = omega arith; key = key; body = tt } in
     let writes = a_empty ∷ a_gone ∷ [] in
-    one_file 1 (records_of writes) writes (all_records writes (first, (second, tt)))
+    one_file 1 (records_of writes) (omega arith) writes (all_records writes (first, (second, tt)))
     (omega arith, (omega arith, tt))
 
 one_delete_map : put_of (winner (a_empty ∷ a_gone ∷ []) (97 ∷ [])) ≡ None
@@ -210,7 +221,7 @@ torn_records =
 torn_prefix : Prefix ((main 1, left) ∷ []) (x1 ∷ y2 ∷ z3 ∷ []) 1 []
 torn_prefix = record {
   found = x1 ∷ [];
-  sound = one_file 1 left (x1 ∷ []) torn_records (omega arith, tt);
+  sound = one_file 1 left (omega arith) (x1 ∷ []) torn_records (omega arith, tt);
   part = record { n = 1; low = omega arith; high = omega arith; same_map = λ key. refl };
 }
 
@@ -257,7 +268,7 @@ tried_prefix =
     let writes = x1 ∷ y2 ∷ [] in
     record {
       found = writes;
-      sound = one_file 1 (records_of writes) writes (all_records writes (x1_fits, (y2_fits, tt)))
-          (omega arith, (omega arith, tt));
+      sound = one_file 1 (records_of writes) (omega arith) writes
+          (all_records writes (x1_fits, (y2_fits, tt))) (omega arith, (omega arith, tt));
       part = record { n = 2; low = omega arith; high = omega arith; same_map = λ key. refl };
     }

@@ -1,11 +1,13 @@
--- A directory holds one log.
-use Rattle.std.proofs.Common.{◌≡◌, List, subst}
+-- A directory holds one log, and the empty one where no file counts.
+use Rattle.std.proofs.Common.{◌≡◌, List, [], subst}
 use Rattle.bk_base.specs.declared.names.Name.{Name}
 use Rattle.bk_base.specs.declared.writes.Write.{Write}
+use Rattle.bk_disk.specs.Told.{Image, at}
 use Rattle.bk_record.proofs.FileRecords.{one_list}
 use Rattle.bk_image.specs.Readings.{Books, In, Reading, bytes_in}
 use Rattle.bk_image.specs.CountedFiles.{Counts}
 use Rattle.bk_image.specs.RecoveredLog.{Recovers}
+use Rattle.bk_image.specs.SoundDirectory.{IsSound}
 use Rattle.bk_image.proofs.Logs.{same_writes}
 
 -- the books agree wherever a file counts
@@ -28,3 +30,17 @@ pub one_log : (r : Reading) (books other : Books) (log more : List Write) → Re
 one_log r books other log more p q =
     same_writes 0 0 log more p.rising q.rising (within r books other log more p q)
     (within r other books more log q p)
+
+pub none_sound : (image : Image) → ((n : Name) → Counts (at image) n → ⊥) → IsSound image []
+none_sound image none = record {
+  books = λ n. [];
+  recovers = record {
+    reads = λ n c. absurd (none n c);
+    once = λ n c. tt;
+    apart = λ n m w c d p q. absurd p;
+    rising = tt;
+    from = λ w is_in. absurd is_in;
+    all = λ n w c is_in. is_in;
+  };
+  hints = λ n bytes c is. absurd (none n c);
+}

@@ -1,5 +1,5 @@
 -- Which files count, and what leaves that as it is.
-use Rattle.std.proofs.Common.{◌≡◌, ℕ, ◌==◌, true, false, List, Some, refl, sym, ap, subst, ◌∙◌}
+use Rattle.std.proofs.Common.{◌≡◌, ℕ, ◌≤◌, ◌==◌, true, false, List, Some, refl, sym, ap, subst, ◌∙◌}
 use Rattle.std.proofs.Common.{arith, inl, inr}
 use Rattle.std.specs.Option.{is_some}
 use Rattle.std.proofs.lemmas.Bool.{cases_Bool}
@@ -77,17 +77,28 @@ places_trans r s t p q = record {
 counts_as : (r s : Reading) (kind : Kind) (id : ℕ) → SamePlaces r s → CountsAs kind r id
     → CountsAs kind s id
 counts_as r s Main id p c =
-    (sym (p.mains id) ∙ c.0, λ is. c.1 (input_kept s r id (λ k. sym (p.lists k)) is))
+    (sym (p.mains id) ∙ c.0, λ is. c.1 (input_kept s r id (λ k. sym (p.lists k)) is), c.2)
 counts_as r s MainTemp id p c = (
   sym (p.temps id) ∙ c.0,
   output_kept r s id p.lists c.1,
   λ is. c.2 (input_kept s r id (λ k. sym (p.lists k)) is),
   λ there. c.3 (p.mains id ∙ there),
+  c.4,
 )
 counts_as r s kind id p c = absurd c
 
 pub counts_same : (r s : Reading) (n : Name) → SamePlaces r s → Counts r n → Counts s n
 counts_same r s n p c = counts_as r s n.kind n.id p c
+
+-- no file counts that is numbered 0
+
+first_as : (r : Reading) (kind : Kind) (id : ℕ) → CountsAs kind r id → 1 ≤ id
+first_as r Main id c = c.2
+first_as r MainTemp id c = c.4
+first_as r kind id c = absurd c
+
+pub counts_first : (r : Reading) (n : Name) → Counts r n → 1 ≤ n.id
+counts_first r n c = first_as r n.kind n.id c
 
 -- a change of one name alone
 

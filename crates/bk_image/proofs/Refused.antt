@@ -1,5 +1,5 @@
 -- Directories that the definitions refuse: a seq that stands twice, and a synced write that is gone.
-use Rattle.std.proofs.Common.{◌≡◌, ℕ, true, List, [], ◌∷◌, take}
+use Rattle.std.proofs.Common.{◌≡◌, ℕ, ◌≤◌, true, List, [], ◌∷◌, take}
 use Rattle.std.proofs.Common.{Option, Some, None, refl, sym, ap, subst, ◌∙◌, arith, inl}
 use Rattle.std.specs.Option.{is_some, unwrap_or}
 use Rattle.std.proofs.lemmas.Bool.{true≢false}
@@ -29,11 +29,13 @@ twice = (main 1, records_of (a1 ∷ [])) ∷ (main 2, records_of (a1 ∷ [])) �
 no_list : (id : ℕ) → at twice (swap id) ≡ None
 no_list id = rw (other_kind (swap id) (main 1) refl, other_kind (swap id) (main 2) refl) refl
 
-both_count : (id : ℕ) → is_some (at twice (main id)) ≡ true → Counts (at twice) (main id)
-both_count id there = (
+both_count : (id : ℕ) → 1 ≤ id → is_some (at twice (main id)) ≡ true
+    → Counts (at twice) (main id)
+both_count id first there = (
   there,
   λ input. let differ : None ≡ Some input.1.bytes = sym (no_list input.1.id)
       ∙ input.1.there in absurd (cc differ),
+  first,
 )
 
 at_1 : at twice (main 1) ≡ Some (records_of (a1 ∷ []))
@@ -44,11 +46,11 @@ at_2 : at twice (main 2) ≡ Some (records_of (a1 ∷ []))
 unfolding same
 at_2 = refl
 
-book : (sound : (log : List Write) × IsSound twice log) (id : ℕ)
+book : (sound : (log : List Write) × IsSound twice log) (id : ℕ) → 1 ≤ id
     → at twice (main id) ≡ Some (records_of (a1 ∷ []))
     → In a1 (sound.1.books (main id))
-book (log, sound) id there =
-    let counts = both_count id (ap is_some there) in
+book (log, sound) id first there =
+    let counts = both_count id first (ap is_some there) in
     let are : AreRecords (records_of (a1 ∷ [])) (sound.books (main id)) =
     subst (λ (o : Option (List ℕ)). AreRecords (unwrap_or o []) (sound.books (main id))) there
     (sound.recovers.reads (main id) counts) in
@@ -60,9 +62,9 @@ book (log, sound) id there =
 not_twice : (log : List Write) → IsSound twice log → ⊥
 not_twice log sound =
     let is : main 1 ≡ main 2 =
-    sound.recovers.apart (main 1) (main 2) a1 (both_count 1 (ap is_some at_1))
-    (both_count 2 (ap is_some at_2))
-    (book (log, sound) 1 at_1) (book (log, sound) 2 at_2) in
+    sound.recovers.apart (main 1) (main 2) a1
+    (both_count 1 (omega arith) (ap is_some at_1)) (both_count 2 (omega arith) (ap is_some at_2))
+    (book (log, sound) 1 (omega arith) at_1) (book (log, sound) 2 (omega arith) at_2) in
     omega (arith, ap (λ (n : Name). n.id) is)
 
 -- ---- nothing is left of a write that was synced

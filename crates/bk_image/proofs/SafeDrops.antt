@@ -136,7 +136,7 @@ temp_stays : (r s : Reading) (id : ℕ) (kind : Kind) (k : ℕ) → AllBut (main
 temp_stays r s id Main k others far c =
     let lists = lists_beside (main_temp id) r s
     (λ j. other_kind (swap j) (main_temp id) refl) others in
-    (ap is_some (others (main k) far) ∙ c.0, λ i. c.1 (input_kept s r k (λ j. sym (lists j)) i))
+    (ap is_some (others (main k) far) ∙ c.0, λ i. c.1 (input_kept s r k (λ j. sym (lists j)) i), c.2)
 temp_stays r s id MainTemp k others far c =
     let lists = lists_beside (main_temp id) r s
     (λ j. other_kind (swap j) (main_temp id) refl) others in
@@ -146,6 +146,7 @@ temp_stays r s id MainTemp k others far c =
       output_kept r s k lists c.1,
       λ i. c.2 (input_kept s r k (λ j. sym (lists j)) i),
       λ there. c.3 (ap is_some (sym main_is) ∙ there),
+      c.4,
     )
 temp_stays r s id kind k others far c = absurd c
 
@@ -191,7 +192,7 @@ input_stays r s id Main k others input c =
           (c.1 (subst (λ (j : ℕ). IsInput r j) (sym (main_same k id p)) input))
       | inr p ↦ p
     ] in
-    (ap is_some (others (main k) far) ∙ c.0, λ i. c.1 (input_kept s r k (λ j. sym (lists j)) i))
+    (ap is_some (others (main k) far) ∙ c.0, λ i. c.1 (input_kept s r k (λ j. sym (lists j)) i), c.2)
 input_stays r s id MainTemp k others input c =
     let lists = lists_beside (main id) r s (λ j. other_kind (swap j) (main id) refl) others in
     let far : same (main k) (main id) ≡ false =
@@ -204,6 +205,7 @@ input_stays r s id MainTemp k others input c =
       output_kept r s k lists c.1,
       λ i. c.2 (input_kept s r k (λ j. sym (lists j)) i),
       λ there. c.3 (ap is_some (sym (others (main k) far)) ∙ there),
+      c.4,
     )
 input_stays r s id kind k others input c = absurd c
 

@@ -52,6 +52,7 @@ beside_as : (id : ℕ) (r s : Reading) (kind : Kind) (k : ℕ) → AllBut (main 
 beside_as id r s Main k others unlisted other c = (
   there_other (main id) (main k) r s others other c.0,
   λ is. c.1 (input_kept s r k (λ j. sym (lists_kept id r s others j)) is),
+  c.2,
 )
 beside_as id r s MainTemp k others unlisted other c =
     let output : IsOutput s k = output_kept r s k (lists_kept id r s others) c.1 in
@@ -64,6 +65,7 @@ beside_as id r s MainTemp k others unlisted other c =
       output,
       λ is. c.2 (input_kept s r k (λ j. sym (lists_kept id r s others j)) is),
       no_main,
+      c.4,
     )
 beside_as id r s kind k others unlisted other c = absurd c
 
@@ -161,8 +163,11 @@ settled_as : (r s : Reading) (id : ℕ) (kind : Kind) (k : ℕ) → IsSettled r 
     → same (record { id = k; kind = kind }) (main id) ≡ false
     → CountsAs kind s k → CountsAs kind r k
 settled_as r s id Main k is other c =
-    let kept = is.others (main k) other (other_kind (main k) (main_temp id) refl) in
-    (ap is_some (sym kept) ∙ c.0, λ input. c.1 (input_kept r s k (settled_lists r s id is) input))
+    let kept = is.others (main k) other (other_kind (main k) (main_temp id) refl) in (
+      ap is_some (sym kept) ∙ c.0,
+      λ input. c.1 (input_kept r s k (settled_lists r s id is) input),
+      c.2,
+    )
 settled_as r s id MainTemp k is other c =
     let far : same (main_temp k) (main_temp id) ≡ false =
     elim (cases_Bool (same (main_temp k) (main_temp id))) [
@@ -182,6 +187,7 @@ settled_as r s id MainTemp k is other c =
       output_kept s r k (λ j. sym (settled_lists r s id is j)) c.1,
       λ input. c.2 (input_kept r s k (settled_lists r s id is) input),
       no_main,
+      c.4,
     )
 settled_as r s id kind k is other c = absurd c
 
@@ -197,6 +203,7 @@ settles_as r s id Main k is far c =
     ] in (
       ap is_some (is.others (main k) other far) ∙ c.0,
       λ input. c.1 (input_kept s r k (λ j. sym (settled_lists r s id is j)) input),
+      c.2,
     )
 settles_as r s id MainTemp k is far c =
     let other = other_kind (main_temp k) (main id) refl in
@@ -215,6 +222,7 @@ settles_as r s id MainTemp k is far c =
       output_kept r s k (settled_lists r s id is) c.1,
       λ input. c.2 (input_kept s r k (λ j. sym (settled_lists r s id is j)) input),
       no_main,
+      c.4,
     )
 settles_as r s id kind k is far c = absurd c
 
@@ -288,6 +296,7 @@ settled_counts : (r s : Reading) (id : ℕ) → IsSettled r s id → Counts s (m
 settled_counts r s id is = (
   ap is_some is.reads ∙ is.counted.0,
   λ input. is.counted.2 (input_kept s r id (λ j. sym (settled_lists r s id is j)) input),
+  is.counted.4,
 )
 
 settled_stays : (r s : Reading) (books : Books) (id : ℕ) (m : Name) (w : Write) → IsSettled r s id
@@ -411,6 +420,7 @@ unlisted_was r s l Main id u c =
       there,
       λ input. elim (input_is r s l id u input)
           [ inl stands ↦ c.1 stands | inr own ↦ u.no_main id own there ],
+      c.2,
     )
 unlisted_was r s l MainTemp id u c =
     let there : IsThere r (main_temp id) = ap is_some (sym (temp_kept r s l id u)) ∙ c.0 in (
@@ -419,13 +429,14 @@ unlisted_was r s l MainTemp id u c =
       λ input. elim (input_is r s l id u input)
           [ inl stands ↦ c.2 stands | inr own ↦ u.no_temp id own there ],
       λ main_there. c.3 (ap is_some (main_kept r s l id u) ∙ main_there),
+      c.4,
     )
 unlisted_was r s l kind id u c = absurd c
 
 unlisted_is : (r s : Reading) (l : SwapList) (kind : Kind) (id : ℕ) → Unlists r s l
     → CountsAs kind r id → CountsAs kind s id
 unlisted_is r s l Main id u c =
-    (ap is_some (main_kept r s l id u) ∙ c.0, λ input. c.1 (input_was r s l id u input))
+    (ap is_some (main_kept r s l id u) ∙ c.0, λ input. c.1 (input_was r s l id u input), c.2)
 unlisted_is r s l MainTemp id u c =
     let output : IsOutput s id =
     elim (output_is r s l id u c.1)
@@ -434,6 +445,7 @@ unlisted_is r s l MainTemp id u c =
       output,
       λ input. c.2 (input_was r s l id u input),
       λ main_there. c.3 (ap is_some (sym (main_kept r s l id u)) ∙ main_there),
+      c.4,
     )
 unlisted_is r s l kind id u c = absurd c
 

@@ -1,5 +1,5 @@
 -- Which data files count, by the swap lists that stand beside them.
-use Rattle.std.specs.Prelude.{◌≡◌, ℕ, List, Some, is_some}
+use Rattle.std.specs.Prelude.{◌≡◌, ℕ, ◌≤◌, List, Some, is_some}
 use Rattle.bk_base.specs.declared.names.Name.{Name}
 use Rattle.bk_base.specs.declared.names.Kind.{Kind}
 use Rattle.bk_base.specs.declared.names.Kind.TheVariants.{Main, MainTemp}
@@ -21,11 +21,12 @@ abbrev pub IsOutput : Reading → ℕ → Type 0
 IsOutput r id = (l : SwapList) × HasList r l × In id l.outputs
 
 -- A data file counts while no list has it as an input. A list's output may still have its temporary
--- name; then it counts under that one.
+-- name; then it counts under that one. Files are numbered from 1 on: one with number 0 never counts.
 abbrev pub CountsAs : Kind → Reading → ℕ → Type 0
-CountsAs Main r id = IsThere r (main id) × (IsInput r id → ⊥)
+CountsAs Main r id = IsThere r (main id) × (IsInput r id → ⊥) × (1 ≤ id)
 CountsAs MainTemp r id =
     IsThere r (main_temp id) × IsOutput r id × (IsInput r id → ⊥) × (IsThere r (main id) → ⊥)
+    × (1 ≤ id)
 CountsAs kind r id = ⊥
 
 abbrev pub Counts : Reading → Name → Type 0

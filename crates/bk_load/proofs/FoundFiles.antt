@@ -131,35 +131,36 @@ truth_of : (o : Option (List ℕ)) (len : ℕ) (ws : List Write) → ((b : List 
 truth_of None len ws tell = tt
 truth_of (Some b) len ws tell = tell b refl
 
-own_counts : (r : Reading) (id : ℕ) (bytes : List ℕ) → HasNoList r → r (main id) ≡ Some bytes → Counts r (main id)
-own_counts r id bytes none is = (ap is_some is, λ input. let (l, has, is_in) = input in none l has)
+own_counts : (r : Reading) (id : ℕ) (bytes : List ℕ) → 1 ≤ id → HasNoList r → r (main id) ≡ Some bytes → Counts r (main id)
+own_counts r id bytes first none is = (ap is_some is, λ input. let (l, has, is_in) = input in none l has, first)
 
-pub book_records : (r : Reading) (books : Books) (id : ℕ) (bytes : List ℕ) → HasNoList r → r (main id) ≡ Some bytes
+pub book_records : (r : Reading) (books : Books) (id : ℕ) (bytes : List ℕ) → 1 ≤ id → HasNoList r → r (main id) ≡ Some bytes
     → ((n : Name) → Counts r n → AreRecords (bytes_in r n) (books n)) → AreRecords bytes (books (main id))
-book_records r books id bytes none is reads =
+book_records r books id bytes first none is reads =
     subst (λ (b : List ℕ). AreRecords b (books (main id))) (ap (λ (o : Option (List ℕ)). unwrap_or o []) is)
-    (reads (main id) (own_counts r id bytes none is))
+    (reads (main id) (own_counts r id bytes first none is))
 
-pub book_hint : (r : Reading) (books : Books) (id : ℕ) (bytes : List ℕ) → HasNoList r → r (main id) ≡ Some bytes
+pub book_hint : (r : Reading) (books : Books) (id : ℕ) (bytes : List ℕ) → 1 ≤ id → HasNoList r → r (main id) ≡ Some bytes
     → HintsTrue r books → TrueIfThere (r (hint id)) (length bytes) (books (main id))
-book_hint r books id bytes none is tell =
+book_hint r books id bytes first none is tell =
     truth_of (r (hint id)) (length bytes) (books (main id))
     (λ b there. subst (λ (x : List ℕ). HintTrue b (length x) (books (main id))) (ap (λ (o : Option (List ℕ)). unwrap_or o []) is)
-    (tell (main id) b (own_counts r id bytes none is) there))
+    (tell (main id) b (own_counts r id bytes first none is) there))
 
 -- what was read of a file, read in the image in which the loop began
-pub scanned_in : (image now : Image) (books : Books) (file : FileId) (end : ℕ) (k l : Known) → HasNoList (at image) → now ≡ image
+pub scanned_in : (image now : Image) (books : Books) (file : FileId) (end : ℕ) (k l : Known) → 1 ≤ file.0
+    → HasNoList (at image) → now ≡ image
     → (len : ℕ) → option_map length (at image (main file.0)) ≡ Some len
     → ((n : Name) → Counts (at image) n → AreRecords (bytes_in (at image) n) (books n)) → HintsTrue (at image) books
     → ((bytes : List ℕ) (writes : List Write) → at now (main file.0) ≡ Some bytes → AreRecords bytes writes
     → TrueIfThere (at now (hint file.0)) (length bytes) writes → HasScanned file 0 writes end k l)
     → HasScanned file 0 (books (main file.0)) end k l
-scanned_in image now books file end k l none same len long reads tell read =
+scanned_in image now books file end k l first none same len long reads tell read =
     let (bytes, is, size) = map_some (at image (main file.0)) len long in
     read bytes (books (main file.0)) (ap (λ (i : Image). at i (main file.0)) same ∙ is)
-    (book_records (at image) books file.0 bytes none is reads)
+    (book_records (at image) books file.0 bytes first none is reads)
     (subst (λ (i : Image). TrueIfThere (at i (hint file.0)) (length bytes) (books (main file.0))) (sym same)
-    (book_hint (at image) books file.0 bytes none is tell))
+    (book_hint (at image) books file.0 bytes first none is tell))
 
 pub have_read_one : (books : Books) (found : List FileFound) (f : FileFound) (file : FileId) (j k l : Known) → f.row.id ≡ file
     → HaveRead books found j k → HasScanned file 0 (books (main file.0)) f.row.total k l → HaveRead books (found ++ f ∷ []) j l

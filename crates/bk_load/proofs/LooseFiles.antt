@@ -65,9 +65,10 @@ loose_now image now files n has none tidied listed is loose =
     record {
       no_main = kind.no_main;
       no_swap = kind.no_swap;
-      no_data = λ is_hint there.
+      no_data = λ is_hint first there.
           let (bytes, here) = there_some (at now (main n.id)) there in
-          let counted = tidied.was n.id bytes (counts_own (at now) n.id bytes (no_list_still (at image) (at now) tidied none) here) in
+          let counted = tidied.was n.id bytes
+          (counts_own (at now) n.id bytes first (no_list_still (at image) (at now) tidied none) here) in
           let was : at image (main n.id) ≡ Some bytes = own_name (at image) n.id bytes none counted in
           let some : is_some has ≡ true = ap is_some is ∙ ap (λ (fs : List Listed). is_some (len_in fs (main n.id))) listed
           ∙ len_there image (main n.id) (ap is_some was) in

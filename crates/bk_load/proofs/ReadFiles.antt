@@ -1,5 +1,5 @@
 -- What reading one data file needs, and what it gives.
-use Rattle.std.proofs.Common.{◌≡◌, ℕ, true, false, List, length, drop, Option, Some, None, refl, ap, subst, ◌∙◌, arith}
+use Rattle.std.proofs.Common.{◌≡◌, ℕ, ◌≤◌, true, false, List, length, drop, Option, Some, None, refl, ap, subst, ◌∙◌, arith}
 use Rattle.std.specs.Option.{is_some}
 use Rattle.std.specs.Prelude.{IsSomeAnd}
 use Rattle.bk_base.specs.declared.names.Name.{Name}
@@ -36,11 +36,11 @@ covers_none (Some bytes) len (Some v) judged short (rows, good) =
     let is : v ≡ Good len (length rows) = one_verdict bytes len v (Good len (length rows)) judged (rows, good, refl) in
     short (ap (λ (x : Verdict). covered_by (Some x)) is)
 
-pub needs_scan : (r : Reading) (file : ℕ) (bytes : List ℕ) (len : ℕ) (v : Option Verdict) → HasNoList r → r (main file) ≡ Some bytes
+pub needs_scan : (r : Reading) (file : ℕ) (bytes : List ℕ) (len : ℕ) (v : Option Verdict) → 1 ≤ file → HasNoList r → r (main file) ≡ Some bytes
     → length bytes ≡ len → IsJudged (r (hint file)) len v → (covered_by v ≡ len → ⊥) → NeedsScan r file
-needs_scan r file bytes len v none there long judged short =
+needs_scan r file bytes len v first none there long judged short =
     let at_len : CoversAll (r (hint file)) len → ⊥ = covers_none (r (hint file)) len v judged short in
-    (bytes, counts_own r file bytes none there, λ covers. at_len (subst (CoversAll (r (hint file))) long covers))
+    (bytes, counts_own r file bytes first none there, λ covers. at_len (subst (CoversAll (r (hint file))) long covers))
 
 -- what its hint told and what was scanned behind it
 pub file_read : (file : FileId) (bytes : List ℕ) (writes : List Write) (covered end : ℕ) (j k l : Known)

@@ -31,7 +31,7 @@ names_behind low (x ∷ xs) y rise above below =
     (rise.0, names_behind (x.id + 1) xs y rise.1 (omega (arith, first)) (λ z is_in. below z (inr is_in)))
 
 -- earlier files have lesser ids
-from_low : (low : ℕ) (ns : List Numbered) (i : ℕ) (d : Numbered) → RiseFrom low ns → i < length ns → low ≤ (get_or ns i d).id
+pub from_low : (low : ℕ) (ns : List Numbered) (i : ℕ) (d : Numbered) → RiseFrom low ns → i < length ns → low ≤ (get_or ns i d).id
 from_low low [] i d rise within = absurd (omega arith)
 from_low low (n ∷ ns) zero d rise within = rise.0
 from_low low (n ∷ ns) (suc i) d rise within =

@@ -23,6 +23,7 @@ use Rattle.bk_files.specs.Rows.{AreFromScratch, IsRowFromScratch}
 use Rattle.bk_image.proofs.Chances.{records_of-append}
 use Rattle.bk_image.proofs.Lists.{in-append, in-append_left, in-append_right}
 use Rattle.bk_image.proofs.Logs.{rises-last, seq_after-in}
+use Rattle.bk_image.proofs.Places.{counts_first}
 use Rattle.bk_image.proofs.Winners.{winner-in, winner_is}
 use Rattle.bk_image.specs.CountedFiles.{Counts, CountsAs, HasNoList}
 use Rattle.bk_image.specs.Readings.{Books, In, Reading, bytes_in, main}
@@ -37,15 +38,15 @@ use Rattle.bk_laws.specs.Version.{is_tombstone, placed_from, version_at}
 use Rattle.bk_store.specs.Starting.{IsLoadOf}
 use Rattle.bk_store.specs.Versions.{IsPlaced, KeyStands, KeysStand, VersionStands}
 use Rattle.bk_load.specs.declared.files.FileFound.{FileFound}
-use Rattle.bk_load.specs.Found.{AreFound, HasTotal, IsFound, found_row, placed_in, writes_in}
+use Rattle.bk_load.specs.Found.{AreFound, FilesRise, HasTotal, IsFound, found_row, placed_in, writes_in}
 use Rattle.bk_load.specs.Learning.{greatest, if_of, newer, newest_in}
-use Rattle.bk_load.specs.Loads.{AreLone, HasNoZero, IsLoadedFrom, SaysAsRead, put_if}
-use Rattle.bk_load.specs.Tidying.{CountsWith, Tidied}
+use Rattle.bk_load.specs.Loads.{AreLone, IsLoadedFrom, SaysAsRead, put_if}
+use Rattle.bk_load.specs.Tidying.{Tidied}
 use Rattle.bk_load.proofs.Counted.{all_rows, some_counted}
 use Rattle.bk_load.proofs.KeptKeys.{all_in}
 use Rattle.bk_load.proofs.KeptLogs.{counts_bytes, tidied_sound}
 use Rattle.bk_store.proofs.Keys.{key_is, key_same, key_sym}
-use Rattle.bk_load.proofs.Tidied.{counts_own, own_name}
+use Rattle.bk_load.proofs.Tidied.{own_name}
 
 -- ---- the newest of some versions
 
@@ -274,15 +275,22 @@ last_is log ws rises within all =
 
 pub record Held (r : Reading) (books : Books) (found : List FileFound) (log : List Write) : Type 0 where
   pub no_list : HasNoList r
-  pub no_zero : HasNoZero r
+  pub rise : FilesRise 1 found
   pub files : AreFound r found
   pub recovers : Recovers r books log
 
-found_counts : (r : Reading) (found : List FileFound) (f : FileFound) → HasNoList r → AreFound r found → In f found
-    → Counts r (main f.row.id.0)
-found_counts r found f none files is_in =
+found_low : (low : ℕ) (fs : List FileFound) (f : FileFound) → FilesRise low fs → In f fs → low ≤ f.row.id.0
+found_low low [] f rise is_in = absurd is_in
+found_low low (g ∷ gs) f rise (inl is) =
+    let id : f.row.id.0 ≡ g.row.id.0 = ap (λ (x : FileFound). x.row.id.0) is in let p = rise.0 in omega (arith, id, p)
+found_low low (g ∷ gs) f rise (inr later) =
+    let p = rise.0 in let q = found_low (g.row.id.0 + 1) gs f rise.1 later in omega (arith, p, q)
+
+found_counts : (r : Reading) (found : List FileFound) (f : FileFound) → HasNoList r → FilesRise 1 found → AreFound r found
+    → In f found → Counts r (main f.row.id.0)
+found_counts r found f none rise files is_in =
     let is = all_in (IsFound r) found f files.each is_in in
-    (ap is_some is.there, λ input. let (l, has, there) = input in none l has)
+    (ap is_some is.there, λ input. let (l, has, there) = input in none l has, found_low 1 found f rise is_in)
 
 own : (r : Reading) (n : Name) → HasNoList r → Counts r n → n ≡ main n.id
 own r n none c = go n.kind n.id c where
@@ -291,38 +299,15 @@ own r n none c = go n.kind n.id c where
   go MainTemp id c = let (l, has, there) = c.1 in absurd (none l has)
   go kind id c = absurd c
 
-no_writes : (bytes : List ℕ) (ws : List Write) (w : Write) → AreRecords bytes ws → bytes ≡ [] → In w ws → ⊥
-no_writes bytes [] w are is is_in = is_in
-no_writes bytes (x ∷ xs) w are is is_in =
-    let rest : List ℕ = drop (length (record_of x ++ records_of xs)) bytes in
-    let zero_long : length ((record_of x ++ records_of xs) ++ rest) ≡ 0 = ap length (sym are.held ∙ is) in
-    let long = length-append (record_of x ++ records_of xs) rest in
-    let first = length-append (record_of x) (records_of xs) in
-    let size = length-record_of x in
-    absurd (omega (arith, zero_long, long, first, size))
-
 -- each write of the log was read
 log_found : (r : Reading) (books : Books) (found : List FileFound) (log : List Write) (w : Write) → Held r books found log
     → In w log → (f : FileFound) × In f found × In w (books (main f.row.id.0))
-log_found r books found log w h is_in = go (cases_lt 0 n.id) where
-  from : (n : Name) × Counts r n × In w (books n)
-  from = h.recovers.from w is_in
-
-  n : Name
-  n = from.0
-
-  with_bytes : CountsWith r n.id (bytes_in r n)
-  with_bytes = counts_bytes r n from.1
-
-  go : (0 < n.id) ⊎ (n.id ≤ 0) → (f : FileFound) × In f found × In w (books (main f.row.id.0))
-  go (inl above) =
-      let (f, there, id) = h.files.all n.id (bytes_in r n) (omega (arith, above)) (own_name r n.id (bytes_in r n) h.no_list with_bytes) in
-      let name : n ≡ main f.row.id.0 = own r n h.no_list from.1 ∙ ap main (sym id) in
-      (f, there, subst (λ (m : Name). In w (books m)) name from.2)
-  go (inr below) =
-      let at_zero : n.id ≡ 0 = omega (arith, below) in
-      let empty : bytes_in r n ≡ [] = h.no_zero (bytes_in r n) (subst (λ (k : ℕ). CountsWith r k (bytes_in r n)) at_zero with_bytes) in
-      absurd (no_writes (bytes_in r n) (books n) w (h.recovers.reads n from.1) empty from.2)
+log_found r books found log w h is_in =
+    let (n, counts, in_book) = h.recovers.from w is_in in
+    let (f, there, id) = h.files.all n.id (bytes_in r n) (counts_first r n counts)
+    (own_name r n.id (bytes_in r n) h.no_list (counts_bytes r n counts)) in
+    let name : n ≡ main f.row.id.0 = own r n h.no_list counts ∙ ap main (sym id) in
+    (f, there, subst (λ (m : Name). In w (books m)) name in_book)
 
 text_at : (bytes : List ℕ) (ws before : List Write) (w : Write) (later : List Write) → AreRecords bytes ws → ws ≡ before ++ w ∷ later
     → take (size_of w) (drop (0 + length (records_of before)) bytes) ≡ record_of w
@@ -365,7 +350,7 @@ won r books found log key v h newest = go (newest_read key (placed_in books foun
   go (p, is_in, same, is) = at_file (placed_file books found p is_in) where
     at_file : ((f : FileFound) × In f found × StandsAt f.row.id 0 (books (main f.row.id.0)) p) → IsWon r log key v
     at_file (f, there, s) =
-        let counts : Counts r (main f.row.id.0) = found_counts r found f h.no_list h.files there in
+        let counts : Counts r (main f.row.id.0) = found_counts r found f h.no_list h.rise h.files there in
         let in_book : In s.write (books (main f.row.id.0)) =
         subst (In s.write) (sym s.whole) (in-append_right s.write s.before (s.write ∷ s.later) (inl refl)) in
         let in_log : In s.write log = h.recovers.all (main f.row.id.0) s.write counts in_book in
@@ -437,7 +422,7 @@ last_stands r books found log h = last_is log (writes_in books found) h.recovers
   within : (w : Write) → In w (writes_in books found) → In w log
   within w is_in =
       let (f, there, in_book) = write_of books found w is_in in
-      h.recovers.all (main f.row.id.0) w (found_counts r found f h.no_list h.files there) in_book
+      h.recovers.all (main f.row.id.0) w (found_counts r found f h.no_list h.rise h.files there) in_book
 
   all : (w : Write) → In w log → In w (writes_in books found)
   all w is_in =
@@ -495,8 +480,8 @@ covered u l load id first no_row = go (at u.image (main id)) refl where
 
 -- What was loaded of a sound directory is what its log says.
 pub sound_load : (t u : Told) (l : Loaded) (log : List Write) → Tidied (at t.image) (at u.image) → IsSoundDisk t log
-    → HasNoZero (at t.image) → IsWell u → IsSynced u → HasNoList (at u.image) → IsLoadedFrom (at u.image) l → IsLoadOf u l log
-sound_load t u l log tidied sound no_zero well synced none load = record {
+    → IsWell u → IsSynced u → HasNoList (at u.image) → IsLoadedFrom (at u.image) l → IsLoadOf u l log
+sound_load t u l log tidied sound well synced none load = record {
   disk = record { well = well; sound = now; synced = synced };
   idle = none;
   seq = says.last ∙ last_stands (at u.image) now.books load.found log held;
@@ -508,18 +493,15 @@ sound_load t u l log tidied sound no_zero well synced none load = record {
         total = s.total;
       })
       (scratches u now.books load.found load.files.each says.totals
-      (λ f is_in. now.recovers.reads (main f.row.id.0) (found_counts (at u.image) load.found f none load.files is_in))));
+      (λ f is_in. now.recovers.reads (main f.row.id.0) (found_counts (at u.image) load.found f none load.rise load.files is_in))));
   counts = says.counts;
   covered = λ id first. covered u l load id first;
 } where
   now : IsSound u.image log
   now = tidied_sound t.image u.image log tidied sound.sound
 
-  zero_now : HasNoZero (at u.image)
-  zero_now = λ bytes c. no_zero bytes (tidied.was 0 bytes c)
-
   says : SaysAsRead now.books load.found l
   says = load.read now.books now.recovers.reads now.hints
 
   held : Held (at u.image) now.books load.found log
-  held = record { no_list = none; no_zero = zero_now; files = load.files; recovers = now.recovers }
+  held = record { no_list = none; rise = load.rise; files = load.files; recovers = now.recovers }

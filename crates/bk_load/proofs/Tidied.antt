@@ -1,5 +1,5 @@
 -- Steps that leave which bytes count for each id, and the hints beside them.
-use Rattle.std.proofs.Common.{◌≡◌, ◌⊎◌, ℕ, true, false, List, length, Option, Some, None, refl, sym, ap, subst, ◌∙◌, inl, inr}
+use Rattle.std.proofs.Common.{◌≡◌, ◌⊎◌, ℕ, ◌≤◌, true, false, List, length, Option, Some, None, refl, sym, ap, subst, ◌∙◌, inl, inr}
 use Rattle.std.specs.Option.{is_some}
 use Rattle.std.proofs.lemmas.Bool.{cases_Bool, cases_eq}
 use Rattle.bk_base.specs.declared.names.Kind.{Kind}
@@ -10,7 +10,7 @@ use Rattle.bk_disk.proofs.Names.{same_eq}
 use Rattle.bk_laws.specs.SwapList.{SwapList}
 use Rattle.bk_image.specs.Readings.{In, IsThere, Reading, hint, main, main_temp, swap}
 use Rattle.bk_image.specs.CountedFiles.{CountsAs, HasList, HasNoList, IsInput, IsOutput}
-use Rattle.bk_image.proofs.Places.{input_kept, one_swap, output_kept}
+use Rattle.bk_image.proofs.Places.{counts_first, input_kept, one_swap, output_kept}
 use Rattle.bk_load.specs.Tidying.{CountsWith, CoversAll, NeedsScan, Tidied}
 use Rattle.bk_load.specs.Steps.{LacksOnly, MayGo}
 
@@ -62,7 +62,7 @@ pub counts_with : (r s : Reading) (k : ℕ) → ((id : ℕ) → r (swap id) ≡ 
 counts_with r s k lists m t bytes (kind, c, is) = go kind c is where
   go : (kind : Kind) → CountsAs kind r k → r (record { id = k; kind = kind }) ≡ Some bytes → CountsWith s k bytes
   go Main c is =
-      (Main, (ap is_some (sym m) ∙ c.0, λ i. c.1 (input_kept s r k (λ j. sym (lists j)) i)), sym m ∙ is)
+      (Main, (ap is_some (sym m) ∙ c.0, λ i. c.1 (input_kept s r k (λ j. sym (lists j)) i), c.2), sym m ∙ is)
   go MainTemp c is = (
     MainTemp,
     (
@@ -70,6 +70,7 @@ counts_with r s k lists m t bytes (kind, c, is) = go kind c is where
       output_kept r s k lists c.1,
       λ i. c.2 (input_kept s r k (λ j. sym (lists j)) i),
       λ there. c.3 (ap is_some m ∙ there),
+      c.4,
     ),
     sym t ∙ is,
   )
@@ -91,9 +92,12 @@ own_name r k bytes none (kind, c, is) = go kind c is where
   go MainTemp c is = let (l, has, is_in) = c.1 in absurd (none l has)
   go kind c is = absurd c
 
-pub counts_own : (r : Reading) (k : ℕ) (bytes : List ℕ) → HasNoList r → r (main k) ≡ Some bytes → CountsWith r k bytes
-counts_own r k bytes none is =
-    (Main, (ap is_some is, λ input. let (l, has, is_in) = input in none l has), is)
+pub counts_own : (r : Reading) (k : ℕ) (bytes : List ℕ) → 1 ≤ k → HasNoList r → r (main k) ≡ Some bytes → CountsWith r k bytes
+counts_own r k bytes first none is =
+    (Main, (ap is_some is, λ input. let (l, has, is_in) = input in none l has, first), is)
+
+with_first : (r : Reading) (k : ℕ) (bytes : List ℕ) → CountsWith r k bytes → 1 ≤ k
+with_first r k bytes (kind, c, is) = counts_first r (record { id = k; kind = kind }) c
 
 -- One file is gone
 
@@ -148,7 +152,7 @@ input_may_go r n input never s lacks =
 pub record IsLoose (r : Reading) (n : Name) : Type 0 where
   pub no_main : n.kind ≡ Main → ⊥
   pub no_swap : n.kind ≡ Swap → ⊥
-  pub no_data : n.kind ≡ Hint → IsThere r (main n.id) → ⊥
+  pub no_data : n.kind ≡ Hint → 1 ≤ n.id → IsThere r (main n.id) → ⊥
 
 pub list_was : (r s : Reading) → ((id : ℕ) (bytes : List ℕ) → s (swap id) ≡ Some bytes → r (swap id) ≡ Some bytes)
     → (l : SwapList) → HasList s l → HasList r l
@@ -165,8 +169,8 @@ loose_may_go r n none loose s lacks =
     let no_list : HasNoList s = λ l has. none l (list_was r s (λ id bytes is. back id ∙ is) l has) in
     let data_file : (k : ℕ) → s (main k) ≡ r (main k) = λ k. lacks_same n r s (main k) lacks (λ e. loose.no_main (sym e)) in
     record {
-      was = λ k bytes c. counts_own r k bytes none (sym (data_file k) ∙ own_name s k bytes no_list c);
-      is = λ k bytes c. counts_own s k bytes no_list (data_file k ∙ own_name r k bytes none c);
+      was = λ k bytes c. counts_own r k bytes (with_first s k bytes c) none (sym (data_file k) ∙ own_name s k bytes no_list c);
+      is = λ k bytes c. counts_own s k bytes (with_first r k bytes c) no_list (data_file k ∙ own_name r k bytes none c);
       hints = λ k bytes c.
           let there : IsThere r (main k) = ap is_some (sym (data_file k) ∙ own_name s k bytes no_list c) in
           elim (cases_Bool (same (hint k) n)) [
@@ -174,7 +178,8 @@ loose_may_go r n none loose s lacks =
                 let e : hint k ≡ n = same_eq (hint k) n p in
                 let kind : n.kind ≡ Hint = ap (λ (x : Name). x.kind) (sym e) in
                 let id : k ≡ n.id = ap (λ (x : Name). x.id) e in
-                absurd (loose.no_data kind (subst (λ (j : ℕ). IsThere r (main j)) id there))
+                absurd (loose.no_data kind (subst (λ (j : ℕ). 1 ≤ j) id (with_first s k bytes c))
+                (subst (λ (j : ℕ). IsThere r (main j)) id there))
             | inr p ↦ lacks.others (hint k) p
           ];
       lists = λ id bytes is. back id ∙ is;
@@ -246,6 +251,7 @@ module _ (r s : Reading) (l : SwapList) (done : IsDone r l) (lacks : LacksOnly (
         | inl still ↦ c.1 still
         | inr is_in ↦ not_there (s (main k)) (main_is k ∙ done.no_main k is_in) c.0
       ],
+      c.2,
     ),
     sym (main_is k) ∙ is,
   )
@@ -259,6 +265,7 @@ module _ (r s : Reading) (l : SwapList) (done : IsDone r l) (lacks : LacksOnly (
         | inr is_in ↦ not_there (s (main_temp k)) (temp_is k ∙ done.no_temp k is_in) c.0
       ],
       λ there. c.3 (ap is_some (main_is k) ∙ there),
+      c.4,
     ),
     sym (temp_is k) ∙ is,
   )
@@ -267,7 +274,7 @@ module _ (r s : Reading) (l : SwapList) (done : IsDone r l) (lacks : LacksOnly (
   done_is : (k : ℕ) (bytes : List ℕ) (kind : Kind) → CountsAs kind r k → r (record { id = k; kind = kind }) ≡ Some bytes
       → CountsWith s k bytes
   done_is k bytes Main c is =
-      (Main, (ap is_some (main_is k) ∙ c.0, λ input. c.1 (input_was k input)), main_is k ∙ is)
+      (Main, (ap is_some (main_is k) ∙ c.0, λ input. c.1 (input_was k input), c.2), main_is k ∙ is)
   done_is k bytes MainTemp c is = (
     MainTemp,
     (
@@ -278,6 +285,7 @@ module _ (r s : Reading) (l : SwapList) (done : IsDone r l) (lacks : LacksOnly (
       ],
       λ input. c.2 (input_was k input),
       λ there. c.3 (ap is_some (sym (main_is k)) ∙ there),
+      c.4,
     ),
     temp_is k ∙ is,
   )
@@ -316,7 +324,7 @@ module _ (r s : Reading) (id : ℕ) (takes : Takes r s id) where
   takes_was : (bytes : List ℕ) (kind : Kind) → CountsAs kind s id → s (record { id = id; kind = kind }) ≡ Some bytes
       → CountsWith r id bytes
   takes_was bytes Main c is =
-      (MainTemp, (takes.was_there, takes.output, takes.no_input, takes.no_main), sym takes.moved ∙ is)
+      (MainTemp, (takes.was_there, takes.output, takes.no_input, takes.no_main, c.2), sym takes.moved ∙ is)
   takes_was bytes MainTemp c is = absurd (not_there (s (main_temp id)) takes.gone c.0)
   takes_was bytes kind c is = absurd c
 
@@ -328,6 +336,7 @@ module _ (r s : Reading) (id : ℕ) (takes : Takes r s id) where
     (
       ap is_some takes.moved ∙ takes.was_there,
       λ input. takes.no_input (input_kept s r id swaps input),
+      c.4,
     ),
     takes.moved ∙ is,
   )

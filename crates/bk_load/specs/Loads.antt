@@ -1,5 +1,5 @@
 -- What recovery gives: the rows, the keydir, the last numbers and the report, by what the directory
--- holds. It has no list any more, so each file under its own name counts.
+-- holds. It has no list any more, so each file under its own name counts that isn't numbered 0.
 use Rattle.std.specs.Prelude.{◌≡◌, ℕ, cond, min, List, [], map, count_by, Option, None, Some}
 use Rattle.std.specs.List.{AllByRecursion}
 use Rattle.bk_base.specs.declared.names.Name.{Name}
@@ -16,15 +16,10 @@ use Rattle.bk_load.specs.declared.files.FileFound.{FileFound}
 use Rattle.bk_load.specs.Counting.{all_counted}
 use Rattle.bk_load.specs.Found.{AreFound, FilesRise, HasTotal, IsUncounted, found_row, is_hinted, is_scanned, notes_in, placed_in, torn_in, writes_in}
 use Rattle.bk_load.specs.Learning.{greatest, newest_in}
-use Rattle.bk_load.specs.Tidying.{CountsWith}
 
 -- the writes of each file that counts are those of its records
 abbrev pub AreBooks : Reading → Books → Type 0
 AreBooks r books = (n : Name) → Counts r n → AreRecords (bytes_in r n) (books n)
-
--- No file of the store is numbered 0. One that is there all the same isn't read; here none has bytes.
-abbrev pub HasNoZero : Reading → Type 0
-HasNoZero r = (bytes : List ℕ) → CountsWith r 0 bytes → bytes ≡ []
 
 -- the version, where it is a put
 abbrev pub put_if : Option Version → Option Version

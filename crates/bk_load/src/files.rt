@@ -59,7 +59,7 @@ pub(crate) fn read_files<D: Disk>(
         → IfOk result (λ found. HaveRead books found.items learned.old learned.new) }
 {
     let files = list_files(disk)?;
-    // No file of the store is numbered 0.
+    // A file numbered 0 doesn't count.
     let mains = in_order(alloc, &files, Kind::Main, 1)?;
     let hints = lengths(alloc, &files, Kind::Hint)?;
     let mut found = Vec::with_capacity(alloc, mains.len())?;
@@ -81,6 +81,7 @@ fn read_file<D: Disk>(
     len: u64,
     hint_size: Option<u64>,
 ) -> Result<FileFound, OpenError>
+    requires first { 1 ≤ file.0 }
     requires no_list { IsTrue D.tells → HasNoList (at (D.told disk.old).image) }
     requires none_lent { IsTrue D.tells → NoneLent (D.told disk.old).fronts }
     requires there { IsTrue D.tells → option_map length (at (D.told disk.old).image (main file.0)) ≡ Some len }

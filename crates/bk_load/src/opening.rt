@@ -4,7 +4,6 @@ ghost use Rattle.bk_base.specs.declared.writes.Write.{Write};
 ghost use Rattle.bk_disk.specs.Told.{at};
 ghost use Rattle.bk_image.specs.SoundDirectory.{IsSoundDisk};
 ghost use Rattle.bk_load.specs.Courses.{Came, Course};
-ghost use Rattle.bk_load.specs.Loads.{HasNoZero};
 ghost use Rattle.bk_load.specs.Tidying.{NoneLent};
 ghost use Rattle.bk_store.specs.Standing.{StandsFor};
 ghost use Rattle.bk_store.specs.Starting.{opening_of};
@@ -24,7 +23,6 @@ pub fn open<D: Disk>(alloc: Global, disk: D, settings: Settings) -> Result<Store
         (record { told = D.told disk; faults = D.faults disk; views = D.fallible_views disk; outs = D.fallible_outs disk })
         (record { told = store.files.told; faults = store.files.faults; views = store.files.fallible_views; outs = store.files.fallible_outs })) }
     ensures stands { IsTrue D.tells → (log : List Write) → IsSoundDisk (D.told disk) log
-        → HasNoZero (at (D.told disk).image)
         → IfOk result (λ store. StandsFor store (opening_of log store) [] []) }
     ensures refused { IfErr result (λ refused. Course {T = Unit {0}} D.tells
         (record { told = D.told disk; faults = D.faults disk; views = D.fallible_views disk; outs = D.fallible_outs disk })

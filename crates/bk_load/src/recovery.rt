@@ -10,7 +10,7 @@ ghost use Rattle.bk_load.specs.Courses.{Course};
 ghost use Rattle.bk_load.specs.Directory.{IsCleared, greatest_in};
 ghost use Rattle.bk_load.specs.Found.{FilesRise};
 ghost use Rattle.bk_load.specs.Lists.{AreOdd};
-ghost use Rattle.bk_load.specs.Loads.{HasNoZero, IsLoadedFrom};
+ghost use Rattle.bk_load.specs.Loads.{IsLoadedFrom};
 ghost use Rattle.bk_load.specs.Tidying.{NoneLent};
 ghost use Rattle.bk_store.specs.Starting.{AreFilesOf, IsInOrder, IsLoadOf};
 
@@ -56,7 +56,6 @@ pub fn recover<D: Disk>(alloc: Global, disk: &mut D) -> Result<Loaded, OpenError
     ensures last_file { IsTrue D.tells → IfOk result
         (λ loaded. loaded.last_file.0 ≡ greatest_in (listing (D.told disk.old).image)) }
     ensures sound { IsTrue D.tells → (log : List Write) → IsSoundDisk (D.told disk.old) log
-        → HasNoZero (at (D.told disk.old).image)
         → IfOk result (λ loaded. IsLoadOf (D.told disk.new) loaded log) }
 {
     let listed = list_files(disk)?;

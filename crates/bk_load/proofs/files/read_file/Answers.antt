@@ -35,7 +35,7 @@ scan_from-requires-clause-needed g c = λ tells short.
     (c.sync_file.ensures.image tells) (c.in_ok-verdict.ensures.judged tells) in
     subst (λ (i : Image). NeedsScan (at i) c.args.file.0) (sym image)
     (needs_scan (at (g.D.Disk.told c.args.disk.now).image) c.args.file.0 there.0 c.args.len c.in_ok-verdict.verdict
-    (c.requires.no_list tells) there.1 there.2 judged (λ e. short (c.covered_by-from.ensures ∙ e)))
+    c.requires.first (c.requires.no_list tells) there.1 there.2 judged (λ e. short (c.covered_by-from.ensures ∙ e)))
 
 pub returns-clause-found : goal.returns-clause-found
 returns-clause-found g c = λ tells.

@@ -4,6 +4,7 @@ use Rattle.bk_base.specs.declared.names.Kind.TheVariants.{Main}
 use Rattle.bk_base.specs.declared.numbers.FileId.{FileId}
 use Rattle.bk_disk.specs.Told.{Image, at}
 use Rattle.bk_image.specs.Readings.{hint, main}
+use Rattle.bk_load.specs.Directory.{RiseFrom}
 use Rattle.bk_load.specs.Found.{HaveRead, IsFound, IsUncounted}
 use Rattle.bk_load.specs.Steps.{IsSyncedFile}
 use Rattle.bk_load.specs.declared.files.FileFound.{FileFound}
@@ -11,7 +12,13 @@ use Rattle.bk_load.proofs.Courses.{came_trans, course_after, course_memory}
 use Rattle.bk_load.proofs.FoundFiles.{all_behind, found_all, found_ids, found_rise, have_read_one, ids_more, no_list_at, scanned_in, synced_more, synced_rows}
 use Rattle.bk_load.proofs.Listings.{len_at_now}
 use Rattle.bk_load.proofs.Numbering.{are_numbers, number_len}
+use Rattle.bk_load.proofs.ReadLists.{from_low}
 use Rattle.bk_load.proofs.files.read_files.Goals as goal
+
+pub read_file-requires-clause-first : goal.read_file-requires-clause-first
+read_file-requires-clause-first g c =
+    from_low 1 c.deref-main-items.result.now c.files.main-index _
+    (subst (RiseFrom 1) (sym c.deref-main-items.ensures.value) (c.in_ok-mains.ensures).rise) c.files-test.true
 
 pub read_file-requires-clause-no_list : goal.read_file-requires-clause-no_list
 read_file-requires-clause-no_list g c = λ tells.
@@ -64,7 +71,8 @@ files-preserved g c = record {
       (g.met.D.Disk.well c.args.disk.now tells).once (c.deref.ensures.value ∙ c.in_ok-files.ensures.files tells)
       c.in_ok-mains.ensures c.deref-main-items.ensures.value in
       let scanned = scanned_in image (g.D.Disk.told c.files.disk).image books _ c.in_ok-this.this.row.total c.files.learned
-      c.read_file.new.learned (c.requires.no_list tells) (c.files.invariant.image tells) _
+      c.read_file.new.learned (from_low 1 _ c.files.main-index _ numbers.rise c.files-test.true)
+      (c.requires.no_list tells) (c.files.invariant.image tells) _
       (numbers.there c.files.main-index _ c.files-test.true) reads tell
       (c.in_ok-this.ensures.read tells) in
       subst (λ (fs : List FileFound). HaveRead books fs c.args.learned.now c.read_file.new.learned) (sym c.in_ok-push.ensures.items)

@@ -109,7 +109,7 @@ returns-clause-odd g c = λ tells.
     c.assemble.ensures.loaded
 
 pub returns-clause-sound : goal.returns-clause-sound
-returns-clause-sound g c = λ tells log sound no_zero.
+returns-clause-sound g c = λ tells log sound.
     let came = came_trans _ _ _ _ (came_trans _ _ _ _ (came_trans _ _ _ _ (came_trans _ _ _ _ c.list_files.ensures.course.came
     c.read_lists.ensures.course.came) c.settle_lists.ensures.course.came) c.clear_unless_odd.ensures.course.came)
     c.read_files.ensures.course.came in
@@ -120,7 +120,7 @@ returns-clause-sound g c = λ tells log sound no_zero.
     (c.in_ok-settle_lists.ensures.none tells) in
     let image = sym (c.read_files.ensures.image tells) in
     if_ok_map c.assemble.result _ _
-    (λ l a. sound_load (g.D.Disk.told c.args.disk.now) (g.D.Disk.told c.read_files.new.disk) l log goes.tidied sound no_zero
+    (λ l a. sound_load (g.D.Disk.told c.args.disk.now) (g.D.Disk.told c.read_files.new.disk) l log goes.tidied sound
     (g.met.D.Disk.well c.read_files.new.disk tells) (goes.synced sound.synced) none
     (subst (λ (i : Image). IsLoadedFrom (at i) l) image
     (is_loaded_from (at (g.D.Disk.told c.clear_unless_odd.new.disk).image) _ _ _ _ _ l c.new-learned.ensures.entries
