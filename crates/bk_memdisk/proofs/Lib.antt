@@ -5,3 +5,4 @@ pub mod Edits
 pub mod Listings
 pub mod Either
 pub mod Left
+pub mod Stays

@@ -152,7 +152,7 @@ fn fault(faults: &mut u64) -> Failed
     Failed
 }
 
-#[tactic(auto, using(bk_disk::proofs::Still::still_appended, bk_disk::proofs::Still::still_synced, bk_disk::proofs::Still::still_cut, bk_disk::proofs::Still::still_made, bk_disk::proofs::Still::still_removed, bk_disk::proofs::Still::still_renamed, bk_disk::proofs::Still::still_returned, bk_disk::proofs::Still::still_viewed, bk_disk::proofs::Still::still_same,))]
+#[tactic(auto, using(crate::proofs::Stays::stays))]
 impl Disk for MemDisk {
     ghost use Rattle.std.specs.Prelude.{refl};
     ghost use Rattle.bk_base.specs.declared.names.Name.{Name};
