@@ -1,8 +1,10 @@
 //! Files over a disk in memory: where they roll, what a repair leaves, and what a crash leaves after
 //! each call of the disk.
-ghost use Rattle.std.specs.Prelude.{◌≡◌, false, IfOk, IsTrue, OnOk};
+ghost use Rattle.std.specs.Prelude.{◌≡◌, false, IsTrue, OnOk};
+ghost use Rattle.bk_disk.specs.Told.{nothing_told};
 ghost use Rattle.bk_files.specs.Files.{IsConsistent, is_due, is_torn};
 ghost use Rattle.bk_files.specs.Rows.{IsRecord};
+ghost use Rattle.bk_memdisk.specs.Disk.{told_by};
 
 use crate::catalog::Catalog;
 use crate::{Active, Files, RollError};
@@ -11,6 +13,7 @@ use bk_disk::Disk;
 use bk_memdisk::{Choice, MemDisk};
 use bk_record::encode;
 use std::alloc::Global;
+use std::process::Abort;
 use std::test::Fail;
 
 const FIRST: Name = Name {
@@ -24,18 +27,46 @@ const SECOND: Name = Name {
 };
 
 // A record of 23 bytes and a value of this length.
-fn record(alloc: Global, value: usize) -> Result<Vec<u8>, Fail>
-    ensures { IfOk result (λ text. IsRecord text.items) }
+fn record(rt: &impl Abort, alloc: Global, value: usize) -> Vec<u8>
+    ensures { IsRecord result.items }
 {
+    let key = Key::of(alloc, b"k").expect(rt, "key");
+    let bytes = vec![in alloc; 7u8; value].expect(rt, "memory");
     let write = Write {
         seq: Seq(1),
         moment: Moment(0),
-        key: Key::new(b"k".to_vec(alloc)?)?,
-        body: Body::Put(Value::new(vec![in alloc; 7u8; value]?)?),
+        key,
+        body: Body::Put(Value::new(bytes).expect(rt, "value")),
     };
     let mut text = Vec::new(alloc);
-    encode(&write, &mut text)?;
-    Ok(text)
+    encode(&write, &mut text).expect(rt, "memory");
+    text
+}
+
+// An empty disk on which this call fails, and all calls after so many do.
+fn disk(
+    rt: &impl Abort,
+    alloc: Global,
+    fails: Option<(u64, u64)>,
+    calls: u64,
+    effect: u64,
+) -> MemDisk
+    ensures { told_by result ≡ nothing_told }
+{
+    let mut disk = MemDisk::new(alloc);
+    if let Some((nth, effect)) = fails {
+        disk.fail(nth, effect).expect(rt, "memory");
+    }
+    disk.fuse(calls, effect);
+    disk
+}
+
+// The files of an empty disk.
+fn begun(alloc: Global, disk: MemDisk) -> Files<MemDisk>
+    requires { told_by disk ≡ nothing_told }
+    ensures { IsConsistent result }
+{
+    Files::new(disk, Vec::new(alloc), FileId(0), 4096)
 }
 
 // Rolls, where the text needs a new file.
@@ -114,39 +145,90 @@ fn the_active_file_stands_below_an_output(rt: HostRuntime) -> Result<(), Fail> {
     Ok(())
 }
 
-#[test]
-fn files_roll_past_their_limit(rt: HostRuntime) -> Result<(), Fail> {
-    let plain = record(rt.alloc(), 2025)?;
-    for (value, sealed, active) in [(2025, 4096, 2048), (9977, 10_000, 4096)] {
-        let first = record(rt.alloc(), value)?;
-        let disk = MemDisk::new(rt.alloc());
-        let mut files = Files::new(disk, Vec::new(rt.alloc()), FileId(0), 4096);
-        put(&mut files, &first)?;
-        put(&mut files, &plain)?;
-        put(&mut files, &plain)?;
-        assert_eq!(rt; files.row(FileId(1)), row(1, sealed, RowState::Sealed));
-        assert_eq!(rt; files.row(FileId(2)), row(2, active, RowState::Active));
-        assert_eq!(rt; files.rows().len(), 2);
-    }
-    Ok(())
+// The files as they stand.
+fn assert_rows(rt: &impl Abort, files: &Files<MemDisk>, rows: &[Row]) {
+    assert_eq!(*rt; files.rows(), rows);
+}
+
+// Puts the text, whose record stands at this place.
+fn put_at(rt: &impl Abort, files: &mut Files<MemDisk>, text: &[u8], at: u64)
+    requires { IsConsistent files.old × IsRecord text.now }
+    ensures { IsConsistent files.new }
+{
+    assert_eq!(*rt; put(files, text), Ok(at));
+}
+
+// A first record with such a value, and two plain ones, fill files of these lengths.
+fn rolls(rt: &impl Abort, alloc: Global, value: usize, places: [u64; 3], rows: &[Row]) {
+    let plain = record(rt, alloc, 2025);
+    let mut files = begun(alloc, MemDisk::new(alloc));
+    put_at(rt, &mut files, &record(rt, alloc, value), places[0]);
+    put_at(rt, &mut files, &plain, places[1]);
+    put_at(rt, &mut files, &plain, places[2]);
+    assert_rows(rt, &files, rows);
 }
 
 #[test]
-fn a_failed_append_is_cut_away(rt: HostRuntime) -> Result<(), Fail> {
-    let mut disk = MemDisk::new(rt.alloc());
-    disk.fail(3, 24)?;
-    let mut files = Files::new(disk, Vec::new(rt.alloc()), FileId(0), 4096);
-    let text = record(rt.alloc(), 77)?;
-    assert_eq!(rt; put(&mut files, &text), Ok(0));
-    assert_eq!(rt; put(&mut files, &text), Err(RollError::Disk));
-    assert!(rt; files.view(FileId(1), 0, 124).is_ok());
-    assert!(rt; files.view(FileId(1), 0, 125).is_err());
-    assert_eq!(rt; files.row(FileId(1)), row(1, 100, RowState::Active));
-    assert_eq!(rt; put(&mut files, &text), Ok(100));
-    files.sync()?;
-    let disk = files.into_disk();
-    assert_eq!(rt; disk.bytes(FIRST).map(|bytes| bytes.len()), Some(200));
-    Ok(())
+fn files_roll_past_their_limit(rt: HostRuntime) {
+    let rows = [
+        made(1, 4096, RowState::Sealed),
+        made(2, 2048, RowState::Active),
+    ];
+    rolls(&rt, rt.alloc(), 2025, [0, 2048, 0], &rows);
+}
+
+#[test]
+fn a_large_record_fills_a_file_alone(rt: HostRuntime) {
+    let rows = [
+        made(1, 10_000, RowState::Sealed),
+        made(2, 4096, RowState::Active),
+    ];
+    rolls(&rt, rt.alloc(), 9977, [0, 0, 2048], &rows);
+}
+
+// Whether the first file shows so many bytes.
+fn shows(files: &mut Files<MemDisk>, len: u64) -> bool
+    requires { IsConsistent files.old }
+    ensures { IsConsistent files.new }
+{
+    files.view(FileId(1), 0, len).is_ok()
+}
+
+// Files whose second record got 24 bytes through.
+fn torn(rt: &impl Abort, alloc: Global, text: &[u8]) -> Files<MemDisk>
+    requires { IsRecord text.now }
+    ensures { IsConsistent result }
+{
+    let mut files = begun(alloc, disk(rt, alloc, Some((3, 24)), 1000, 0));
+    put_at(rt, &mut files, text, 0);
+    assert_eq!(*rt; put(&mut files, text), Err(RollError::Disk));
+    files
+}
+
+#[test]
+fn a_torn_record_is_no_part_of_its_file(rt: HostRuntime) {
+    let text = record(&rt, rt.alloc(), 77);
+    let mut files = torn(&rt, rt.alloc(), &text);
+    assert!(rt; shows(&mut files, 124));
+    assert!(rt; !shows(&mut files, 125));
+    assert_rows(&rt, &files, &[made(1, 100, RowState::Active)]);
+}
+
+// How long the first file is once all is synced.
+fn synced(rt: &impl Abort, files: Files<MemDisk>) -> Option<usize>
+    requires { IsConsistent files }
+{
+    let mut files = files;
+    files.sync().expect(rt, "synced");
+    files.into_disk().bytes(FIRST).map(|bytes| bytes.len())
+}
+
+#[test]
+fn a_failed_append_is_cut_away(rt: HostRuntime) {
+    let text = record(&rt, rt.alloc(), 77);
+    let mut files = torn(&rt, rt.alloc(), &text);
+    put_at(&rt, &mut files, &text, 100);
+    assert_eq!(rt; synced(&rt, files), Some(200));
 }
 
 // What was done before the put that a crash cuts off.
@@ -189,45 +271,51 @@ const STOPS: [(Before, u64, u64, Lengths, Lengths); 20] = [
     (Before::Torn, 3, 1, (4096, None), (2048, None)),
 ];
 
-fn prepared(
-    alloc: Global,
-    before: Before,
-    text: &[u8],
-    calls: u64,
-    effect: u64,
-) -> Result<Files<MemDisk>, Fail>
-    requires { IsRecord text.now }
-    ensures { IfOk result (λ files. IsConsistent files) }
+// What was done before the put: of the records all are one text.
+fn prepares(rt: &impl Abort, files: &mut Files<MemDisk>, before: Before, text: &[u8])
+    requires { IsConsistent files.old × IsRecord text.now }
+    ensures { IsConsistent files.new }
 {
-    let mut disk = MemDisk::new(alloc);
-    if before == Before::Torn {
-        disk.fail(3, 24)?;
-    }
-    disk.fuse(calls.saturating_add(3), effect);
-    let mut files = Files::new(disk, Vec::new(alloc), FileId(0), 4096);
-    put(&mut files, text)?;
+    put(files, text).expect(rt, "put");
     if before == Before::Synced {
-        files.sync()?;
-        return Ok(files);
+        files.sync().expect(rt, "synced");
+    } else {
+        let _torn_or_done = put(files, text);
     }
-    let _torn_or_done = put(&mut files, text);
-    Ok(files)
+}
+
+// What a crash leaves of a put that this stop cuts off.
+fn left(
+    rt: &impl Abort,
+    alloc: Global,
+    stop: (Before, u64, u64),
+    text: &[u8],
+    keep: Option<u64>,
+) -> MemDisk
+    requires { IsRecord text.now }
+{
+    let (before, calls, effect) = stop;
+    let fails = (before == Before::Torn).then_some((3, 24));
+    let disk = disk(rt, alloc, fails, calls.saturating_add(3), effect);
+    let mut files = begun(alloc, disk);
+    prepares(rt, &mut files, before, text);
+    let _cut_off = put(&mut files, text);
+    let choice = Choice {
+        keep,
+        flips: Vec::new(alloc),
+    };
+    files.into_disk().crash(&choice).expect(rt, "memory")
 }
 
 #[test]
 fn a_crash_leaves_what_was_done_or_synced(rt: HostRuntime) -> Result<(), Fail> {
-    let text = record(rt.alloc(), 2025)?;
+    let text = record(&rt, rt.alloc(), 2025);
     let mut twice = text.to_vec(rt.alloc())?;
     twice.extend_from_slice(&text)?;
     for (before, calls, effect, done, synced) in STOPS {
         for (keep, (first, second)) in [(None, done), (Some(0), synced)] {
-            let mut files = prepared(rt.alloc(), before, &text, calls, effect)?;
-            let _cut_off = put(&mut files, &text);
-            let choice = Choice {
-                keep,
-                flips: Vec::new(rt.alloc()),
-            };
-            let left = files.into_disk().crash(&choice)?;
+            let stop = (before, calls, effect);
+            let left = left(&rt, rt.alloc(), stop, &text, keep);
             assert_eq!(rt; left.bytes(FIRST), twice.get(..first));
             assert_eq!(rt; left.bytes(SECOND), second.and_then(|len| text.get(..len)));
         }
