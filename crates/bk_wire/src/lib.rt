@@ -14,6 +14,7 @@ mod stops;
 mod words;
 
 pub use laws::{one_answer, one_reading, one_reply, one_request, read_back};
+pub use digits::{Digits, hex};
 pub use reader::{Next, Reader};
 pub use replies::write_reply;
 pub use reply_reader::{ReadReply, ReplyStop, read_reply};
