@@ -122,15 +122,17 @@ counted_more es n rows lt =
 
 -- a row, counted
 pub record Counted (live refs : ℕ) (r s : Row) : Type 0 where
-  pub live_is : s.live ≡ r.live + live
-  pub refs_is : s.refs ≡ r.refs + refs
+  pub live_is : r.live + live ≤ top → s.live ≡ r.live + live
+  pub refs_is : r.refs + refs ≤ top → s.refs ≡ r.refs + refs
   pub total_is : s.total ≡ r.total
+  pub len_is : s.len ≡ r.len
 
 uncounted : (r : Row) → Counted 0 0 r r
-uncounted r = record { live_is = omega arith; refs_is = omega arith; total_is = refl }
+uncounted r = record { live_is = λ low. omega arith; refs_is = λ low. omega arith; total_is = refl; len_is = refl }
 
-counted_put : (v : Version) (r : Row) → r.live + v.size ≤ top → r.refs + 1 ≤ top → Counted v.size 1 r (with_put v r)
-counted_put v r live refs = record { live_is = omega (arith, live); refs_is = omega (arith, refs); total_is = refl }
+counted_put : (v : Version) (r : Row) → Counted v.size 1 r (with_put v r)
+counted_put v r =
+    record { live_is = λ low. omega (arith, low); refs_is = λ low. omega (arith, low); total_is = refl; len_is = refl }
 
 abbrev RowIs : ℕ → List Row → Row → ℕ → ℕ → Type 0
 RowIs id rows r live refs = (s : Row) × (row_of id rows ≡ Some s) × Counted live refs r s
@@ -142,26 +144,24 @@ eq_sym a b =
       | inr is ↦ eq_not a b is ∙ sym (eq_not b a (λ same. is (sym same)))
     ]
 
-one_counted : (id : ℕ) (v : Version) (rows : List Row) (r : Row) → row_of id rows ≡ Some r → r.live + bytes_in id v ≤ top
-    → r.refs + one_in id v ≤ top → RowIs id (counted_in v rows) r (bytes_in id v) (one_in id v)
-one_counted id v rows r is live refs =
-    go v.gone (id == v.file.0) (eq_sym v.file.0 id) (row_of-edited v.file.0 id (with_put v) rows (λ x. refl)) live refs where
+one_counted : (id : ℕ) (v : Version) (rows : List Row) (r : Row) → row_of id rows ≡ Some r
+    → RowIs id (counted_in v rows) r (bytes_in id v) (one_in id v)
+one_counted id v rows r is =
+    go v.gone (id == v.file.0) (eq_sym v.file.0 id) (row_of-edited v.file.0 id (with_put v) rows (λ x. refl)) where
       go : (g b : Bool) → (v.file.0 == id) ≡ b
           → row_of id (edited v.file.0 (with_put v) rows) ≡ cond b (option_map (with_put v) (row_of id rows)) (row_of id rows)
-          → r.live + cond (not g && (v.file.0 == id)) v.size 0 ≤ top → r.refs + cond (not g && (v.file.0 == id)) 1 0 ≤ top
           → RowIs id (cond g rows (edited v.file.0 (with_put v) rows)) r (cond (not g && (v.file.0 == id)) v.size 0)
           (cond (not g && (v.file.0 == id)) 1 0)
-      go true b here found live refs = (r, is, uncounted r)
-      go false true here found live refs =
+      go true b here found = (r, is, uncounted r)
+      go false true here found =
           let edit : row_of id (edited v.file.0 (with_put v) rows) ≡ Some (with_put v r) = found ∙ ap (option_map (with_put v)) is in
-          rw here
-          (with_put v r, edit, counted_put v r (rw here at live) (rw here at refs))
-      go false false here found live refs = rw here (r, found ∙ is, uncounted r)
+          rw here (with_put v r, edit, counted_put v r)
+      go false false here found = rw here (r, found ∙ is, uncounted r)
 
-if_counted : (id : ℕ) (o : Option Version) (rows : List Row) (r : Row) → row_of id rows ≡ Some r → r.live + bytes_if id o ≤ top
-    → r.refs + one_if id o ≤ top → RowIs id (counted_if o rows) r (bytes_if id o) (one_if id o)
-if_counted id None rows r is live refs = (r, is, uncounted r)
-if_counted id (Some v) rows r is live refs = one_counted id v rows r is live refs
+if_counted : (id : ℕ) (o : Option Version) (rows : List Row) (r : Row) → row_of id rows ≡ Some r
+    → RowIs id (counted_if o rows) r (bytes_if id o) (one_if id o)
+if_counted id None rows r is = (r, is, uncounted r)
+if_counted id (Some v) rows r is = one_counted id v rows r is
 
 none_counted_in : (id : ℕ) (v : Version) (rows : List Row) → row_of id rows ≡ None → row_of id (counted_in v rows) ≡ None
 none_counted_in id v rows is = go v.gone where
@@ -189,25 +189,26 @@ none_counted id (e ∷ es) rows is =
 
 -- where each key has one version
 pub row_counted : (n id : ℕ) (es : List Entry) (rows : List Row) (r : Row) → AllByRecursion (IsLoneEntry n) es
-    → row_of id rows ≡ Some r → r.live + live_of id es ≤ top → r.refs + refs_of id es ≤ top
-    → RowIs id (all_counted es rows) r (live_of id es) (refs_of id es)
-row_counted n id [] rows r lone is live refs = (r, is, uncounted r)
-row_counted n id ((k, []) ∷ es) rows r lone is live refs = absurd (lone.0 tt)
-row_counted n id ((k, v ∷ w ∷ vs) ∷ es) rows r lone is live refs = absurd (lone.0 tt)
-row_counted n id ((k, v ∷ []) ∷ es) rows r lone is live refs =
-    let (s, found, counted) = if_counted id (Some v) rows r is (omega (arith, live)) (omega (arith, refs)) in
-    let sl = counted.live_is in
-    let sr = counted.refs_is in
-    let (t, last, others) =
-    row_counted n id es (counted_if (Some v) rows) s lone.1 found (omega (arith, live, sl)) (omega (arith, refs, sr)) in
-    let tl = others.live_is in
-    let tr = others.refs_is in (
+    → row_of id rows ≡ Some r → RowIs id (all_counted es rows) r (live_of id es) (refs_of id es)
+row_counted n id [] rows r lone is = (r, is, uncounted r)
+row_counted n id ((k, []) ∷ es) rows r lone is = absurd (lone.0 tt)
+row_counted n id ((k, v ∷ w ∷ vs) ∷ es) rows r lone is = absurd (lone.0 tt)
+row_counted n id ((k, v ∷ []) ∷ es) rows r lone is =
+    let (s, found, counted) = if_counted id (Some v) rows r is in
+    let (t, last, others) = row_counted n id es (counted_if (Some v) rows) s lone.1 found in (
       t,
       last,
       record {
-        live_is = omega (arith, sl, tl);
-        refs_is = omega (arith, sr, tr);
+        live_is = λ low.
+            let p = counted.live_is (omega (arith, low)) in
+            let q = others.live_is (omega (arith, low, p)) in
+            omega (arith, p, q);
+        refs_is = λ low.
+            let p = counted.refs_is (omega (arith, low)) in
+            let q = others.refs_is (omega (arith, low, p)) in
+            omega (arith, p, q);
         total_is = others.total_is ∙ counted.total_is;
+        len_is = others.len_is ∙ counted.len_is;
       },
     )
 

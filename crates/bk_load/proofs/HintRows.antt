@@ -1,5 +1,5 @@
 -- The rows of a hint are learned one after the other.
-use Rattle.std.proofs.Common.{◌≡◌, ℕ, ◌+◌, ◌-◌, ◌<◌, List, [], ◌∷◌, ◌++◌, length, Some, refl, sym, ap, subst, ◌∙◌, arith, append_assoc}
+use Rattle.std.proofs.Common.{◌≡◌, ℕ, ◌+◌, ◌-◌, ◌<◌, ◌≤◌, List, [], ◌∷◌, ◌++◌, length, Some, refl, sym, ap, subst, ◌∙◌, arith, append_assoc}
 use Rattle.std.specs.List.{AllByRecursion}
 use Rattle.std.proofs.lemmas.List.{append-nil}
 use Rattle.bk_base.specs.declared.numbers.FileId.{FileId}
@@ -8,7 +8,7 @@ use Rattle.bk_base.specs.declared.writes.Write.{Write}
 use Rattle.bk_hint.specs.Passing.{Gives, Reading}
 use Rattle.bk_hint.proofs.RoundTrips.{told_records}
 use Rattle.bk_image.proofs.Chances.{fit-right}
-use Rattle.bk_laws.specs.Hint.{Hinted, IsSoundRow, RowsLeft, row_from, rows_from, version_in}
+use Rattle.bk_laws.specs.Hint.{Hinted, IsSoundRow, RowsLeft, row_end, row_from, rows_from, version_in}
 use Rattle.bk_laws.specs.Record.{IsWritable, record_of, records_of, size_of}
 use Rattle.bk_laws.specs.Version.{version_at}
 use Rattle.bk_laws.proofs.RecordBytes.{length-record_of}
@@ -89,7 +89,8 @@ taking_all bytes file covered writes at j k so none =
 pub row_fits : (covered : ℕ) (file : FileId) (r : Hinted) (v : Version) (key : List ℕ) → IsSoundRow covered r
     → v ≡ version_in file r → key ≡ r.key → FitsVersion key v
 row_fits covered file r v key sound is is_key =
-    let this : FitsVersion r.key (version_in file r) = record { seq = sound.seq; long = omega arith } in
+    let value = sound.value in
+    let this : FitsVersion r.key (version_in file r) = record { seq = sound.seq; long = omega arith; most = omega (arith, value) } in
     subst (λ (k : List ℕ). FitsVersion k v) (sym is_key) (subst (FitsVersion r.key) (sym is) this)
 
 -- what is read of a hint's rows that are left fits its key, and the reader comes further
@@ -97,6 +98,16 @@ pub gives_fits : (bytes : List ℕ) (old new : Reading) (v : Version) (key : Lis
     → RowsLeft bytes old.at covered rows → Gives bytes old new (Some (v, key)) covered rows → FitsVersion key v
 gives_fits bytes old new v key covered rows before (r, later, rows_are, v_is, key_is, new_is, left) =
     row_fits covered old.file r v key (subst (AllByRecursion (IsSoundRow covered)) rows_are before.sound).0 v_is key_is
+
+-- and its record ends within what the hint covers
+pub gives_within : (bytes : List ℕ) (old new : Reading) (v : Version) (key : List ℕ) (covered : ℕ) (rows : List Hinted)
+    → RowsLeft bytes old.at covered rows → Gives bytes old new (Some (v, key)) covered rows
+    → (v.file ≡ old.file) × (v.at + v.size ≤ covered)
+gives_within bytes old new v key covered rows before (r, later, rows_are, v_is, key_is, new_is, left) =
+    let sound = (subst (AllByRecursion (IsSoundRow covered)) rows_are before.sound).0 in
+    let within = sound.within in
+    let ends : v.at + v.size ≡ row_end r = ap (λ (x : Version). x.at + x.size) v_is in
+    (ap (λ (x : Version). x.file) v_is, omega (arith, within, ends))
 
 pub gives_later : (bytes : List ℕ) (old new : Reading) (v : Version) (key : List ℕ) (covered : ℕ) (rows : List Hinted)
     → Gives bytes old new (Some (v, key)) covered rows → (later : List Hinted) × RowsLeft bytes new.at covered later

@@ -8,13 +8,15 @@ use Rattle.bk_hint.specs.declared.judging.Verdict.TheVariants.{NotWhole, BadChec
 use Rattle.bk_hint.specs.Verdicts.{IsVerdict}
 use Rattle.bk_hint.proofs.RoundTrips.{good_rows}
 use Rattle.bk_image.proofs.Chances.{fit-left}
+use Rattle.bk_keydir.specs.Keydir.{Entry}
 use Rattle.bk_image.specs.RecoveredLog.{HintTrue}
 use Rattle.bk_laws.specs.Hint.{Hinted, RowsLeft, rows_from}
 use Rattle.bk_laws.specs.Record.{IsWritable}
 use Rattle.bk_load.specs.Found.{is_good}
 use Rattle.bk_load.specs.Hints.{HasTaken, covered_by}
-use Rattle.bk_load.specs.Learning.{Known}
+use Rattle.bk_load.specs.Learning.{KeepsWithin, Known}
 use Rattle.bk_load.specs.Scanning.{HasScanned}
+use Rattle.bk_load.proofs.Places.{within_at}
 use Rattle.bk_load.proofs.Scans.{scanned_none}
 
 pub verdict_within : (bytes : List ℕ) (len : ℕ) (v : Verdict) → IsVerdict bytes len v → covered_by (Some v) ≤ len
@@ -31,6 +33,19 @@ verdict_rows bytes len NotWhole is usable = absurd (cc usable)
 verdict_rows bytes len (BadCheck stored computed) is usable = absurd (cc usable)
 verdict_rows bytes len (LengthDiffers said actual) is usable = absurd (cc usable)
 verdict_rows bytes len (BadRow n) is usable = absurd (cc usable)
+
+-- what is kept of rows that are covered ends within the file
+abbrev pub KeepsCovered : List ℕ → FileId → List Entry → List Entry → Type 0
+KeepsCovered bytes file es fs = (covered : ℕ) (rows : List Hinted) → RowsLeft bytes 0 covered rows → KeepsWithin file covered es fs
+
+pub verdict_kept : (bytes : List ℕ) (file : FileId) (len : ℕ) (v : Verdict) (es fs : List Entry) → IsVerdict bytes len v
+    → is_good (Some v) ≡ true → KeepsCovered bytes file es fs → KeepsWithin file len es fs
+verdict_kept bytes file len (Good covered count) es fs (rows, good, is) usable kept =
+    within_at file file covered len es fs refl good.within (kept covered rows (good_rows bytes len covered rows good))
+verdict_kept bytes file len NotWhole es fs is usable kept = absurd (cc usable)
+verdict_kept bytes file len (BadCheck stored computed) es fs is usable kept = absurd (cc usable)
+verdict_kept bytes file len (LengthDiffers said actual) es fs is usable kept = absurd (cc usable)
+verdict_kept bytes file len (BadRow n) es fs is usable kept = absurd (cc usable)
 
 -- what reading all rows gives
 abbrev pub TakesAll : List ℕ → FileId → Known → Known → Type 0

@@ -10,8 +10,7 @@ use Rattle.bk_base.specs.declared.writes.Version.{Version}
 use Rattle.bk_image.specs.Readings.{In}
 use Rattle.bk_keydir.specs.Counts.{bytes_if, bytes_in, is_put_in, live_of, one_if, one_in, refs_in, refs_of}
 use Rattle.bk_keydir.specs.Keydir.{Entry, is_lone_gone, newest_of, versions_of, without_gone}
-use Rattle.bk_store.specs.Shown.{IsFit}
-use Rattle.bk_load.specs.Learning.{IsLone, IsLoneEntry}
+use Rattle.bk_load.specs.Learning.{FitsVersion, IsLone, IsLoneEntry}
 use Rattle.bk_load.specs.Loads.{AreLone, put_if}
 use Rattle.bk_store.proofs.Keys.{key_is, key_refl, key_sym}
 
@@ -66,6 +65,10 @@ all_in P [] x all is_in = absurd is_in
 all_in P (y ∷ ys) x all (inl is) = subst P (sym is) all.0
 all_in P (y ∷ ys) x all (inr later) = all_in P ys x all.1 later
 
+-- each kept key has one version
+pub kept_each : (n : ℕ) (es : List Entry) → AllByRecursion (IsLoneEntry n) es → AllByRecursion (IsLoneEntry n) (without_gone es)
+kept_each n es lone = all_kept (IsLoneEntry n) (λ (x : Entry). not (is_lone_gone x.1)) es lone
+
 differs : (k : List ℕ) (es : List Entry) (e : Entry) → AllByRecursion (λ x. bytes_eq k x ≡ false) (keys_of es) → In e es
     → bytes_eq k e.0 ≡ false
 differs k [] e others is_in = absurd is_in
@@ -98,19 +101,36 @@ kept_lone n es once lone e v is_in there =
     ap newest_of (first_of (without_gone es) e kept_once is_in)
     ∙ lone_newest n e.0 e.1 v (all_in (IsLoneEntry n) (without_gone es) e kept is_in) there
 
-lone_fit : (n : ℕ) (key : List ℕ) (vs : List Version) (v : Version) → IsLone n key vs → In v vs → IsFit n key v
-lone_fit n key [] v lone is_in = absurd is_in
-lone_fit n key (w ∷ x ∷ vs) v lone is_in = absurd (lone tt)
-lone_fit n key (w ∷ []) v lone (inl is) =
-    subst (IsFit n key) (sym is) (record { given_out = lone.1; long = lone.0.long })
-lone_fit n key (w ∷ []) v lone (inr later) = absurd later
+-- the key has one version, a put that was read
+pub record HasPut (n : ℕ) (e : Entry) : Type 0 where
+  pub version : Version
+  pub alone : e.1 ≡ version ∷ []
+  pub put : version.gone ≡ false
+  pub fits : FitsVersion e.0 version
+  pub read : version.seq.0 ≤ n
 
-pub kept_fit : (n : ℕ) (es : List Entry) → AllByRecursion (IsLoneEntry n) es → (e : Entry) (v : Version)
-    → In e (without_gone es) → In v e.1 → IsFit n e.0 v
-kept_fit n es lone e v is_in there =
-    let kept : AllByRecursion (IsLoneEntry n) (without_gone es) =
-    all_kept (IsLoneEntry n) (λ (x : Entry). not (is_lone_gone x.1)) es lone in
-    lone_fit n e.0 e.1 v (all_in (IsLoneEntry n) (without_gone es) e kept is_in) there
+lone_put : (n : ℕ) (e : Entry) → IsLoneEntry n e → is_lone_gone e.1 ≡ false → HasPut n e
+lone_put n (key, []) lone put = absurd (lone tt)
+lone_put n (key, v ∷ w ∷ vs) lone put = absurd (lone tt)
+lone_put n (key, v ∷ []) lone put = record { version = v; alone = refl; put = put; fits = lone.0; read = lone.1 }
+
+-- a key that is kept was there, and isn't gone
+pub kept_in : (es : List Entry) (e : Entry) → In e (without_gone es) → In e es × (is_lone_gone e.1 ≡ false)
+kept_in [] e is_in = absurd is_in
+kept_in (x ∷ xs) e is_in = go (is_lone_gone x.1) refl is_in (kept_in xs e) where
+  behind : In e xs × (is_lone_gone e.1 ≡ false) → In e (x ∷ xs) × (is_lone_gone e.1 ≡ false)
+  behind (there, put) = (inr there, put)
+
+  go : (b : Bool) → is_lone_gone x.1 ≡ b → In e (cond (not b) (x ∷ without_gone xs) (without_gone xs))
+      → (In e (without_gone xs) → In e xs × (is_lone_gone e.1 ≡ false)) → In e (x ∷ xs) × (is_lone_gone e.1 ≡ false)
+  go true gone later others = behind (others later)
+  go false put (inl is) others = (inl is, ap (λ (y : Entry). is_lone_gone y.1) is ∙ put)
+  go false put (inr later) others = behind (others later)
+
+pub kept_put : (n : ℕ) (es : List Entry) → AllByRecursion (IsLoneEntry n) es → (e : Entry) → In e (without_gone es) → HasPut n e
+kept_put n es lone e is_in =
+    let (there, put) = kept_in es e is_in in
+    lone_put n e (all_in (IsLoneEntry n) es e lone there) put
 
 -- ---- counts
 
@@ -142,6 +162,32 @@ pub kept_refs : (n file : ℕ) (es : List Entry) → AllByRecursion (IsLoneEntry
 kept_refs n file es lone =
     refs_live n file (without_gone es) (all_kept (IsLoneEntry n) (λ (x : Entry). not (is_lone_gone x.1)) es lone)
 
--- each kept key has one version
-pub kept_each : (n : ℕ) (es : List Entry) → AllByRecursion (IsLoneEntry n) es → AllByRecursion (IsLoneEntry n) (without_gone es)
-kept_each n es lone = all_kept (IsLoneEntry n) (λ (x : Entry). not (is_lone_gone x.1)) es lone
+one_at_most : (file : ℕ) (v : Version) → one_in file v ≤ 1
+one_at_most file v = go (is_put_in file v) where
+  go : (b : Bool) → cond b 1 0 ≤ 1
+  go true = omega arith
+  go false = omega arith
+
+-- there are no more references than keys
+refs_few : (n file : ℕ) (es : List Entry) → AllByRecursion (IsLoneEntry n) es → refs_of file es ≤ length es
+refs_few n file [] lone = omega arith
+refs_few n file ((k, []) ∷ es) lone = absurd (lone.0 tt)
+refs_few n file ((k, v ∷ w ∷ vs) ∷ es) lone = absurd (lone.0 tt)
+refs_few n file ((k, v ∷ []) ∷ es) lone =
+    let here = one_at_most file v in
+    let later = refs_few n file es lone.1 in
+    omega (arith, here, later)
+
+few_kept : (es : List Entry) → length (without_gone es) ≤ length es
+few_kept [] = omega arith
+few_kept (e ∷ es) = go (is_lone_gone e.1) (few_kept es) where
+  go : (b : Bool) → length (without_gone es) ≤ length es
+      → length (cond (not b) (e ∷ without_gone es) (without_gone es)) ≤ length (e ∷ es)
+  go true later = omega (arith, later)
+  go false later = omega (arith, later)
+
+pub kept_few : (n file : ℕ) (es : List Entry) → AllByRecursion (IsLoneEntry n) es → refs_of file (without_gone es) ≤ length es
+kept_few n file es lone =
+    let refs = refs_few n file (without_gone es) (kept_each n es lone) in
+    let few = few_kept es in
+    omega (arith, refs, few)

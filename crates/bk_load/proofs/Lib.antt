@@ -1,4 +1,5 @@
 pub mod Learned
+pub mod Places
 pub mod Tidied
 pub mod Going
 pub mod Courses

@@ -1,11 +1,14 @@
 -- What reading one data file needs, and what it gives.
-use Rattle.std.proofs.Common.{◌≡◌, ℕ, ◌≤◌, true, false, List, length, drop, Option, Some, None, refl, ap, subst, ◌∙◌, arith}
+use Rattle.std.proofs.Common.{◌≡◌, ℕ, ◌≤◌, Bool, true, false, cond, List, [], ◌∷◌, length, drop, Option, Some, None, refl, sym, ap, subst, ◌∙◌, arith}
 use Rattle.std.specs.Option.{is_some}
 use Rattle.std.specs.Prelude.{IsSomeAnd}
 use Rattle.bk_base.specs.declared.names.Name.{Name}
 use Rattle.bk_base.specs.declared.numbers.FileId.{FileId}
 use Rattle.bk_base.specs.declared.writes.Write.{Write}
-use Rattle.bk_disk.specs.Told.{Front, IsOurs, IsWell, Told, at}
+use Rattle.bk_disk.specs.Crashes.{IsSynced, front_of}
+use Rattle.bk_disk.specs.Names.{same}
+use Rattle.bk_disk.specs.Told.{Front, Image, IsOurs, IsWell, Table, Told, at}
+use Rattle.bk_disk.proofs.Leaves.{whole_fronts}
 use Rattle.bk_disk.proofs.Files.{there_in_both}
 use Rattle.bk_hint.specs.declared.judging.Verdict.{Verdict}
 use Rattle.bk_hint.specs.declared.judging.Verdict.TheVariants.{Good}
@@ -26,6 +29,18 @@ ours t n well none there = (there, go (at t.fronts n) refl (there_in_both t n we
   go : (o : Option Front) → at t.fronts n ≡ o → is_some o ≡ true → IsSomeAnd o (λ f. f.lent ≡ false)
   go (Some f) is some = none n f is
   go None is some = absurd (cc some)
+
+-- no file of a synced disk is lent
+whole_lent : (image : Image) (n : Name) (f : Front) → at (whole_fronts image) n ≡ Some f → f.lent ≡ false
+whole_lent [] n f is = absurd (cc is)
+whole_lent (e ∷ es) n f is = go (same n e.0) is (whole_lent es n f) where
+  go : (b : Bool) → cond b (Some (front_of e.1)) (at (whole_fronts es) n) ≡ Some f
+      → (at (whole_fronts es) n ≡ Some f → f.lent ≡ false) → f.lent ≡ false
+  go true here others = let one : front_of e.1 ≡ f = cc here in ap (λ (x : Front). x.lent) (sym one)
+  go false later others = others later
+
+pub synced_none_lent : (t : Told) → IsSynced t → NoneLent t.fronts
+synced_none_lent t synced n f is = whole_lent t.image n f (ap (λ (fronts : Table Front). at fronts n) (sym synced) ∙ is)
 
 -- A file whose hint doesn't cover it whole has to be read
 

@@ -1,16 +1,19 @@
 -- The records of a file are learned one after the other, and some behind others.
-use Rattle.std.proofs.Common.{◌≡◌, ℕ, ◌+◌, max, List, [], ◌∷◌, ◌++◌, length, drop, refl, sym, ap, subst, ◌∙◌, arith, append_assoc, length-append}
+use Rattle.std.proofs.Common.{◌≡◌, ℕ, ◌+◌, ◌≤◌, max, List, [], ◌∷◌, ◌++◌, length, drop, refl, sym, ap, subst, ◌∙◌, arith, append_assoc, length-append}
 use Rattle.std.proofs.lemmas.List.{append-nil, drop_at}
 use Rattle.std.proofs.Math.ListN.{drop_of_length-le}
 use Rattle.bk_record.proofs.FileRecords.{one_list}
+use Rattle.bk_base.specs.declared.limits.TheConstants.{LONGEST_VALUE}
 use Rattle.bk_base.specs.declared.numbers.FileId.{FileId}
+use Rattle.bk_base.specs.declared.writes.Body.{Body}
+use Rattle.bk_base.specs.declared.writes.Body.TheVariants.{Put, Gone}
 use Rattle.bk_base.specs.declared.writes.Version.{Version}
 use Rattle.bk_base.specs.declared.writes.Write.{Write}
 use Rattle.bk_files.specs.declared.scan.FoundKey.{FoundKey}
 use Rattle.bk_files.specs.Scan.{AreFirst, FindsWrite, IsFoundKey, Scanned}
 use Rattle.bk_files.proofs.FirstRecords.{first-more}
 use Rattle.bk_image.proofs.Chances.{all_records, fit-right, records_of-append}
-use Rattle.bk_laws.specs.Record.{AreRecords, IsSeq, NoRecord, record_of, records_of, size_of}
+use Rattle.bk_laws.specs.Record.{AreRecords, FitsBody, IsSeq, NoRecord, record_of, records_of, size_of, value_of}
 use Rattle.bk_laws.specs.Version.{placed_from, version_at}
 use Rattle.bk_laws.proofs.RecordBytes.{length-record_of}
 use Rattle.bk_load.specs.Hints.{HasTaken}
@@ -115,6 +118,12 @@ scanning_more text file at s rest left f now j k l so is_file finds behind one =
           (finds.version ∙ ap (λ (i : FileId). version_at i s.place w) is_file) one);
     }
 
+value_within : (w : Write) → FitsBody w.body → length (value_of w.body) ≤ LONGEST_VALUE
+value_within w fits = go w.body fits where
+  go : (b : Body) → FitsBody b → length (value_of b) ≤ LONGEST_VALUE
+  go (Put value) fits = fits.bounds
+  go Gone fits = omega arith
+
 -- what was found fits its key
 pub found_fits : (f : FoundKey) (s : Scanned) (now : ℕ) → IsFoundKey f s now → FitsVersion f.key f.version
 found_fits f s now found =
@@ -125,7 +134,16 @@ found_fits f s now found =
     record {
       seq = subst IsSeq (sym seq) found.fits.seq;
       long = omega (arith, size, key);
+      most = let value = value_within w found.fits.body in omega (arith, size, key, value);
     }
+
+-- and its record ends where the scan goes on
+pub found_within : (f : FoundKey) (s : Scanned) (now : ℕ) → IsFoundKey f s now
+    → (f.version.file ≡ s.file) × (f.version.at + f.version.size ≡ now)
+found_within f s now found =
+    let at : f.version.at ≡ s.place = ap (λ (v : Version). v.at) found.version in
+    let behind = found.behind in
+    (ap (λ (v : Version). v.file) found.version, omega (arith, at, behind))
 
 -- Behind the first records of a file stand the others
 

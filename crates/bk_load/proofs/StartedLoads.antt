@@ -1,5 +1,5 @@
 -- What was found and learned, as a store's start asks it.
-use Rattle.std.proofs.Common.{◌≡◌, ◌==◌, ◌⊎◌, ℕ, ◌+◌, ◌<◌, ◌≤◌, Bool, true, false, cond, max, List, [], ◌∷◌, length, map, Option, Some, None, Result, Ok, Err, refl, sym, ap, subst, ◌∙◌, inl, inr, arith, eq-eqb, eqb-true}
+use Rattle.std.proofs.Common.{◌≡◌, ◌==◌, ◌⊎◌, ◌^◌, ℕ, ◌+◌, ◌<◌, ◌≤◌, Bool, true, false, cond, max, List, [], ◌∷◌, length, map, Option, Some, None, Result, Ok, Err, refl, sym, ap, subst, ◌∙◌, inl, inr, arith, eq-eqb, eqb-true}
 use Rattle.std.specs.Option.{is_some, unwrap_or}
 use Rattle.std.specs.Prelude.{IfOk, OnOk}
 use Rattle.std.specs.List.{AllByRecursion}
@@ -24,36 +24,104 @@ use Rattle.bk_keydir.specs.declared.loads.Loaded.{Loaded}
 use Rattle.bk_keydir.specs.Counts.{live_of, refs_of}
 use Rattle.bk_keydir.specs.Keydir.{Entry, newest_of, versions_of, without_gone}
 use Rattle.bk_store.specs.Rows.{RowStands, RowsStand}
-use Rattle.bk_store.specs.Shown.{IsFit}
-use Rattle.bk_store.specs.Starting.{AreFilesOf, IsInOrder}
+use Rattle.bk_store.specs.Starting.{AreFilesOf, HasOnePut, IsInOrder}
 use Rattle.bk_load.specs.declared.files.FileFound.{FileFound}
 use Rattle.bk_load.specs.Assembling.{Assembled}
 use Rattle.bk_load.specs.Counting.{RowsRise, all_counted, counted_if, counted_in, top, with_put}
 use Rattle.bk_load.specs.Directory.{greatest_in}
-use Rattle.bk_load.specs.Found.{AreFound, FilesRise, HaveRead, IsFound, IsUncounted, found_row, placed_in, total_of, writes_in}
-use Rattle.bk_load.specs.Learning.{AreFit, IsLoneEntry, Known, greatest, newer, newest_in}
+use Rattle.bk_load.specs.Found.{AreFound, EndsWithin, FilesRise, HaveRead, IsFound, IsUncounted, KeepsFound, found_row, placed_in, total_of, writes_in}
+use Rattle.bk_load.specs.Learning.{AreFit, IsKept, IsLoneEntry, Known, greatest, newer, newest_in}
 use Rattle.bk_load.specs.Loads.{AreBooks, AreLone, IsLoadedFrom, SaysAsRead, put_if}
 use Rattle.bk_load.specs.Tidying.{NoneLent, Tidied}
 use Rattle.bk_load.proofs.Counted.{all_rows, none_counted, row_counted}
-use Rattle.bk_load.proofs.KeptKeys.{all_in, kept_each, kept_fit, kept_lone, kept_newest, kept_refs, live_kept}
+use Rattle.bk_load.proofs.KeptKeys.{HasPut, all_in, kept_each, kept_few, kept_in, kept_lone, kept_newest, kept_put, kept_refs, live_kept}
+use Rattle.bk_load.proofs.Places.{row_of_found}
 use Rattle.bk_load.proofs.ReadFiles.{ours}
 
 -- ---- over every disk
 
-in_order : (k : Known) (l : Loaded) → l.keydir.entries ≡ without_gone k.keys.entries
-    → l.last_seq.0 ≡ k.last → AreFit k → (e : Entry) (v : Version) → In e l.keydir.entries → In v e.1 → IsFit l.last_seq.0 e.0 v
-in_order k l entries last fit e v is_in there =
-    subst (λ (n : ℕ). IsFit n e.0 v) (sym last)
-    (kept_fit k.last k.keys.entries fit.entries e v (subst (λ (es : List Entry). In e es) entries is_in) there)
+row_in : (id : ℕ) (fs : List FileFound) (r : Row) → row_of id (map found_row fs) ≡ Some r
+    → (f : FileFound) × In f fs × (f.row ≡ r)
+row_in id [] r is = absurd (cc is)
+row_in id (f ∷ fs) r is =
+    elim (cases_Bool (f.row.id.0 == id)) [
+      | inl p ↦ let found : Some f.row ≡ Some r = rw p at is in (f, inl refl, cc found)
+      | inr p ↦ let (g, is_in, same) = row_in id fs r (rw p at is) in (g, inr is_in, same)
+    ]
 
-pub is_in_order : (k : Known) (found : List FileFound) (odd : List Name) (last : FileId) (l : Loaded) → Assembled k found odd last l → AreFit k
-    → IsInOrder l
-is_in_order k found odd last l a fit = record {
+-- a row that was counted has the length of its file
+put_within : (n : ℕ) (es : List Entry) (found : List FileFound) (e : Entry) (f : FileFound) (p : HasPut n e)
+    → AllByRecursion (IsLoneEntry n) es → FilesRise 1 found → In f found → EndsWithin f p.version
+    → HasOnePut n (all_counted es (map found_row found)) e
+put_within n es found e f p lone rise is_in ends =
+    let (s, there, counted) =
+    row_counted n f.row.id.0 es (map found_row found) f.row lone (row_of_found 1 found f rise is_in) in
+    let len = counted.len_is in
+    let within = ends.within in
+    record {
+      version = p.version;
+      alone = p.alone;
+      put = p.put;
+      first = p.fits.seq.0;
+      fit = record { given_out = p.read; long = p.fits.long };
+      most = p.fits.most;
+      row = s;
+      named = ap (λ (i : FileId). row_of i.0 (all_counted es (map found_row found))) ends.file ∙ there;
+      within = omega (arith, len, within);
+    }
+
+has_one_put : (k : Known) (found : List FileFound) → AreFit k → FilesRise 1 found → KeepsFound found [] k.keys.entries
+    → (e : Entry) → In e (without_gone k.keys.entries)
+    → HasOnePut k.last (all_counted (without_gone k.keys.entries) (map found_row found)) e
+has_one_put k found fit rise kept e is_in = go (kept p.version (e, (kept_in k.keys.entries e is_in).0, there)) where
+  p : HasPut k.last e
+  p = kept_put k.last k.keys.entries fit.entries e is_in
+
+  there : In p.version e.1
+  there = subst (In p.version) (sym p.alone) (inl refl)
+
+  go : IsKept p.version [] ⊎ ((f : FileFound) × In f found × EndsWithin f p.version)
+      → HasOnePut k.last (all_counted (without_gone k.keys.entries) (map found_row found)) e
+  go (inl none) = absurd none.1
+  go (inr (f, found_in, ends)) =
+      put_within k.last (without_gone k.keys.entries) found e f p (kept_each k.last k.keys.entries fit.entries) rise found_in ends
+
+refs_counted : (n id : ℕ) (es : List Entry) (found : List FileFound) (r : Row) → AllByRecursion (IsLoneEntry n) es
+    → AllByRecursion IsUncounted found → length es < 2 ^ 63
+    → row_of id (all_counted (without_gone es) (map found_row found)) ≡ Some r → r.refs ≡ refs_of id (without_gone es)
+refs_counted n id es found r lone un few is = go (row_of id (map found_row found)) refl where
+  go : (o : Option Row) → row_of id (map found_row found) ≡ o → r.refs ≡ refs_of id (without_gone es)
+  go None none =
+      let never : None ≡ Some r = sym (none_counted id (without_gone es) (map found_row found) none) ∙ is in absurd (cc never)
+  go (Some s) there =
+      let (f, is_in, same_row) = row_in id found s there in
+      let none : s.refs ≡ 0 = sym (ap (λ (x : Row). x.refs) same_row) ∙ (all_in IsUncounted found f un is_in).refs in
+      let (c, found_c, counted) =
+      row_counted n id (without_gone es) (map found_row found) s (kept_each n es lone) there in
+      let one : Some r ≡ Some c = sym is ∙ found_c in
+      let r_is : r ≡ c = cc one in
+      let same : r.refs ≡ c.refs = ap (λ (x : Row). x.refs) r_is in
+      let at_most = kept_few n id es lone in
+      let refs = counted.refs_is (omega (arith, at_most, few, none)) in
+      omega (arith, same, refs, none)
+
+pub is_in_order : (es : List Entry) (k : Known) (found : List FileFound) (odd : List Name) (last : FileId) (l : Loaded) → Assembled k found odd last l
+    → AreFit k → FilesRise 1 found → AllByRecursion IsUncounted found → es ≡ []
+    → KeepsFound found es k.keys.entries → IsInOrder l
+is_in_order es k found odd last l a fit rise un no_entries kept = record {
   seq = let p = a.seq in let q = fit.last in omega (arith, p, q);
   no_fold = a.no_fold;
   slots = a.slots;
-  versions = λ e v is_in there. in_order k l a.entries a.seq fit e v is_in there;
-}
+  keys = λ e is_in.
+      rw (a.seq, rows) (has_one_put k found fit rise from_none e (subst (λ (fs : List Entry). In e fs) a.entries is_in));
+  refs = λ id r is.
+      rw a.entries (refs_counted k.last id k.keys.entries found r fit.entries un a.few (rw rows at is));
+} where
+  rows : l.rows.items ≡ all_counted (without_gone k.keys.entries) (map found_row found)
+  rows = a.rows ∙ ap (λ (fs : List Entry). all_counted fs (map found_row found)) a.entries
+
+  from_none : KeepsFound found [] k.keys.entries
+  from_none = subst (λ (fs : List Entry). KeepsFound found fs k.keys.entries) no_entries kept
 
 -- nothing was read yet
 pub fit_new : (k : Known) → k.keys.entries ≡ [] → k.last ≡ 0 → AreFit k
@@ -207,15 +275,6 @@ row_total low id (f ∷ fs) r rise is =
           rw at_id (omega (arith, later))
     ]
 
-row_in : (id : ℕ) (fs : List FileFound) (r : Row) → row_of id (map found_row fs) ≡ Some r
-    → (f : FileFound) × In f fs × (f.row ≡ r)
-row_in id [] r is = absurd (cc is)
-row_in id (f ∷ fs) r is =
-    elim (cases_Bool (f.row.id.0 == id)) [
-      | inl p ↦ let found : Some f.row ≡ Some r = rw p at is in (f, inl refl, cc found)
-      | inr p ↦ let (g, is_in, same) = row_in id fs r (rw p at is) in (g, inr is_in, same)
-    ]
-
 pub rows_stand : (n : ℕ) (es : List Entry) (found : List FileFound) → AllByRecursion (IsLoneEntry n) es → FilesRise 1 found
     → AllByRecursion IsUncounted found → ((id : ℕ) → live_of id es ≤ total_of id found)
     → RowsStand (all_counted (without_gone es) (map found_row found)) (without_gone es)
@@ -236,13 +295,11 @@ rows_stand n es found lone rise un grows id r is = go (row_of id (map found_row 
       let within = u.total in
       let small = u.small in
       let (c, found_c, counted) =
-      row_counted n id (without_gone es) (map found_row found) s (kept_each n es lone) there
-      (omega (arith, total, grown, kept, no_live, s_total, within, small))
-      (omega (arith, total, grown, kept, refs, no_refs, s_total, within, small)) in
+      row_counted n id (without_gone es) (map found_row found) s (kept_each n es lone) there in
       let one : Some r ≡ Some c = sym is ∙ found_c in
       let r_is : r ≡ c = cc one in
-      let live = counted.live_is in
-      let refs_are = counted.refs_is in
+      let live = counted.live_is (omega (arith, total, grown, kept, no_live, s_total, within, small)) in
+      let refs_are = counted.refs_is (omega (arith, total, grown, kept, refs, no_refs, s_total, within, small)) in
       let total_is = counted.total_is in
       subst (RowStands (without_gone es) id) (sym r_is)
       (record {

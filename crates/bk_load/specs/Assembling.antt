@@ -1,5 +1,5 @@
 -- What was loaded, from what was learned and found.
-use Rattle.std.specs.Prelude.{◌≡◌, ℕ, false, List, length, map}
+use Rattle.std.specs.Prelude.{◌≡◌, ◌<◌, ◌^◌, ℕ, false, List, length, map}
 use Rattle.std.specs.List.{IsDistinct}
 use Rattle.std.specs.Map.{keys_of}
 use Rattle.std.specs.Str.{bytes_eq}
@@ -19,7 +19,8 @@ pub record Assembled (k : Known) (found : List FileFound) (odd : List Name) (las
   pub entries : l.keydir.entries ≡ without_gone k.keys.entries
   pub no_fold : has_open l.keydir.slots ≡ false
   pub slots : length l.keydir.slots ≡ MOST_FOLDS
-  -- each key stood once
+  -- there were few keys, and each stood once
+  pub few : length k.keys.entries < 2 ^ 63
   pub once : IsDistinct bytes_eq (keys_of k.keys.entries)
   pub rows : l.rows.items ≡ all_counted l.keydir.entries (map found_row found)
   pub report : Reports found l.report

@@ -1,5 +1,5 @@
 -- What was found of the data files.
-use Rattle.std.specs.Prelude.{◌≡◌, ℕ, ◌+◌, ◌-◌, ◌≤◌, ◌==◌, nat_lt, cond, Bool, true, false, List, [], ◌∷◌, ◌++◌, length, Option, None, Some}
+use Rattle.std.specs.Prelude.{◌≡◌, ◌⊎◌, ℕ, ◌+◌, ◌-◌, ◌≤◌, ◌==◌, nat_lt, cond, Bool, true, false, List, [], ◌∷◌, ◌++◌, length, Option, None, Some}
 use Rattle.std.specs.List.{AllByRecursion}
 use Rattle.bk_base.specs.declared.numbers.FileId.{FileId}
 use Rattle.bk_base.specs.declared.rows.Row.{Row}
@@ -14,11 +14,12 @@ use Rattle.bk_hint.specs.Verdicts.{IsVerdict}
 use Rattle.bk_image.specs.Readings.{Books, In, Reading, hint, main}
 use Rattle.bk_image.specs.RecoveredLog.{HintTrue}
 use Rattle.bk_keydir.specs.Counts.{live_of}
+use Rattle.bk_keydir.specs.Keydir.{Entry}
 use Rattle.bk_keydir.specs.declared.loads.Torn.{Torn}
 use Rattle.bk_keydir.specs.declared.loads.HintNote.{HintNote}
 use Rattle.bk_load.specs.declared.files.FileFound.{FileFound}
 use Rattle.bk_load.specs.Counting.{top}
-use Rattle.bk_load.specs.Learning.{Known, Learns, greatest}
+use Rattle.bk_load.specs.Learning.{IsKept, Known, Learns, greatest}
 
 -- what the hint of a file of this length is, where it has one
 abbrev pub IsJudged : Option (List ℕ) → ℕ → Option Verdict → Type 0
@@ -41,6 +42,15 @@ pub record IsUncounted (f : FileFound) : Type 0 where
   pub live : f.row.live ≡ 0
   pub refs : f.row.refs ≡ 0
   pub state : f.row.state ≡ Sealed
+
+-- the version ends within the file
+pub record EndsWithin (f : FileFound) (v : Version) : Type 0 where
+  pub file : v.file ≡ f.row.id
+  pub within : v.at + v.size ≤ f.row.len
+
+-- Each version that is kept now was so before, or it ends within one of these files.
+abbrev pub KeepsFound : List FileFound → List Entry → List Entry → Type 0
+KeepsFound found es fs = (v : Version) → IsKept v fs → IsKept v es ⊎ ((f : FileFound) × In f found × EndsWithin f v)
 
 -- where there is a hint, it tells the truth of these writes
 abbrev pub TrueIfThere : Option (List ℕ) → ℕ → List Write → Type 0

@@ -1,11 +1,13 @@
 -- What the keydir knows of the records that were read.
-use Rattle.std.specs.Prelude.{◌≡◌, ℕ, ◌+◌, ◌≤◌, ◌==◌, cond, nat_lt, max, List, [], ◌∷◌, length, Option, None, Some}
+use Rattle.std.specs.Prelude.{◌≡◌, ℕ, ◌+◌, ◌≤◌, ◌==◌, ◌⊎◌, cond, nat_lt, max, List, [], ◌∷◌, length, Option, None, Some}
 use Rattle.std.specs.List.{AllByRecursion}
 use Rattle.std.specs.Str.{bytes_eq}
-use Rattle.bk_base.specs.declared.limits.TheConstants.{LAST_SEQ, RECORD_HEADER}
+use Rattle.bk_base.specs.declared.limits.TheConstants.{LAST_SEQ, LONGEST_VALUE, RECORD_HEADER}
+use Rattle.bk_base.specs.declared.numbers.FileId.{FileId}
 use Rattle.bk_base.specs.declared.writes.Version.{Version}
 use Rattle.bk_base.specs.declared.writes.Write.{Write}
 use Rattle.bk_laws.specs.Record.{IsSeq}
+use Rattle.bk_image.specs.Readings.{In}
 use Rattle.bk_keydir.specs.Keydir.{Entry, Shown, newest_of, versions_of}
 use Rattle.bk_keydir.specs.Counts.{live_of}
 
@@ -37,10 +39,19 @@ Learns read es fs = (key : List ℕ) → newest_of (versions_of key fs) ≡ newe
 abbrev pub Grows : ℕ → ℕ → List Entry → List Entry → Type 0
 Grows file size es fs = (other : ℕ) → live_of other fs ≤ live_of other es + cond (other == file) size 0
 
+-- it is a version of one of these keys
+abbrev pub IsKept : Version → List Entry → Type 0
+IsKept v es = (e : Entry) × In e es × In v e.1
+
+-- Each version that is kept now was so before, or it ends within so many bytes of this file.
+abbrev pub KeepsWithin : FileId → ℕ → List Entry → List Entry → Type 0
+KeepsWithin file len es fs = (v : Version) → IsKept v fs → IsKept v es ⊎ ((v.file ≡ file) × (v.at + v.size ≤ len))
+
 -- a version that a record of this key may have
 pub record FitsVersion (key : List ℕ) (v : Version) : Type 0 where
   pub seq : IsSeq v.seq.0
   pub long : RECORD_HEADER + length key ≤ v.size
+  pub most : v.size ≤ RECORD_HEADER + length key + LONGEST_VALUE
 
 -- the key has one version, which fits and was read
 abbrev pub IsLone : ℕ → List ℕ → List Version → Type 0

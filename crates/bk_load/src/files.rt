@@ -1,5 +1,5 @@
 //! The data files: each is synced, and then its hint is read, or its records.
-ghost use Rattle.std.specs.Prelude.{◌≡◌, ◌≤◌, ℕ, List, Some, length, map, option_map, IsTrue, IfOk, OnOk};
+ghost use Rattle.std.specs.Prelude.{◌≡◌, ◌≤◌, ◌∷◌, [], ℕ, List, Some, length, map, option_map, IsTrue, IfOk, OnOk};
 ghost use Rattle.bk_base.specs.declared.writes.Write.{Write};
 ghost use Rattle.bk_disk.specs.Told.{at};
 ghost use Rattle.bk_files.specs.Rows.{AreSyncedIfSealed};
@@ -8,9 +8,9 @@ ghost use Rattle.bk_image.specs.Readings.{Books, bytes_in, hint, main};
 ghost use Rattle.bk_image.specs.RecoveredLog.{HintsTrue};
 ghost use Rattle.bk_laws.specs.Record.{AreRecords, IsWritable};
 ghost use Rattle.bk_load.specs.Courses.{Course};
-ghost use Rattle.bk_load.specs.Found.{AreFound, FilesRise, HaveRead, IsFound, IsJudged, IsUncounted, TrueIfThere, found_row};
+ghost use Rattle.bk_load.specs.Found.{AreFound, FilesRise, HaveRead, IsFound, IsJudged, IsUncounted, KeepsFound, TrueIfThere, found_row};
 ghost use Rattle.bk_load.specs.Hints.{HasTaken, covered_by as part_covered};
-ghost use Rattle.bk_load.specs.Learning.{AreFit};
+ghost use Rattle.bk_load.specs.Learning.{AreFit, KeepsWithin};
 ghost use Rattle.bk_load.specs.Scanning.{HasScanned};
 ghost use Rattle.bk_load.specs.Steps.{SyncsToo};
 ghost use Rattle.bk_load.specs.Tidying.{NoneLent};
@@ -48,6 +48,8 @@ pub(crate) fn read_files<D: Disk>(
         result }
     ensures image { IsTrue D.tells → (D.told disk.new).image ≡ (D.told disk.old).image }
     ensures fit { AreFit learned.old → OnOk result (AreFit learned.new) }
+    ensures kept { IfOk result
+        (λ found. KeepsFound found.items learned.old.keys.entries learned.new.keys.entries) }
     ensures rise { IfOk result (λ found. FilesRise 1 found.items) }
     ensures uncounted { IfOk result (λ found. AllByRecursion IsUncounted found.items) }
     ensures found { IsTrue D.tells → IfOk result (λ found. AreFound (at (D.told disk.old).image) found.items) }
@@ -92,6 +94,8 @@ fn read_file<D: Disk>(
         result }
     ensures image { IsTrue D.tells → (D.told disk.new).image ≡ (D.told disk.old).image }
     ensures fit { AreFit learned.old → OnOk result (AreFit learned.new) }
+    ensures kept { IfOk result
+        (λ found. KeepsFound (found ∷ []) learned.old.keys.entries learned.new.keys.entries) }
     ensures file { IfOk result (λ found. found.row.id ≡ file) }
     ensures uncounted { IfOk result IsUncounted }
     ensures found { IsTrue D.tells → IfOk result (IsFound (at (D.told disk.old).image)) }
@@ -134,6 +138,7 @@ fn read_hint_if_there<D: Disk>(
     ensures covered { IfOk result (λ verdict. part_covered verdict ≤ len) }
     ensures judged { IsTrue D.tells → IfOk result (IsJudged (at (D.told disk.old).image (hint file.0)) len) }
     ensures fit { AreFit learned.old → OnOk result (AreFit learned.new) }
+    ensures kept { OnOk result (KeepsWithin file len learned.old.keys.entries learned.new.keys.entries) }
     ensures taken { IsTrue D.tells → (writes : List Write)
         → TrueIfThere (at (D.told disk.old).image (hint file.0)) len writes
         → AllByRecursion IsWritable writes

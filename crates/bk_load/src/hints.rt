@@ -11,7 +11,7 @@ ghost use Rattle.bk_laws.specs.Record.{IsWritable};
 ghost use Rattle.bk_load.specs.Courses.{Course};
 ghost use Rattle.bk_load.specs.Hints.{HasTaken, covered_by};
 ghost use Rattle.bk_load.specs.Found.{is_good};
-ghost use Rattle.bk_load.specs.Learning.{AreFit};
+ghost use Rattle.bk_load.specs.Learning.{AreFit, KeepsWithin};
 ghost use Rattle.bk_load.specs.Scanning.{HasScanned};
 
 use crate::calls::{named, read_whole};
@@ -44,6 +44,7 @@ pub(crate) fn read_hint<D: Disk>(
     ensures judged { IsTrue D.tells → (bytes : List ℕ) → at (D.told disk.old).image (hint file.0) ≡ Some bytes
         → IfOk result (λ verdict. IsVerdict bytes len verdict) }
     ensures fit { AreFit learned.old → OnOk result (AreFit learned.new) }
+    ensures kept { OnOk result (KeepsWithin file len learned.old.keys.entries learned.new.keys.entries) }
     ensures taken { IsTrue D.tells → (bytes : List ℕ) (writes : List Write)
         → at (D.told disk.old).image (hint file.0) ≡ Some bytes → HintTrue bytes len writes
         → AllByRecursion IsWritable writes
@@ -73,6 +74,8 @@ fn learn_rows(
 ) -> Result<(), Memory>
     requires { (covered : ℕ) × (rows : List Hinted) × RowsLeft bytes.now 0 covered rows }
     ensures fit { AreFit learned.old → OnOk result (AreFit learned.new) }
+    ensures kept { (covered : ℕ) (rows : List Hinted) → RowsLeft bytes.now 0 covered rows → OnOk result
+        (KeepsWithin file covered learned.old.keys.entries learned.new.keys.entries) }
     ensures taken { (covered : ℕ) (writes : List Write) → RowsLeft bytes.now 0 covered (rows_from 0 writes)
         → AllByRecursion IsWritable writes → OnOk result
         ((end : ℕ) × HasScanned file 0 writes end learned.old learned.new) }

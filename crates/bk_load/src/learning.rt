@@ -1,11 +1,11 @@
 //! The keydir, as the files fill it.
-ghost use Rattle.std.specs.Prelude.{◌≡◌, ◌∷◌, [], max, OnOk};
+ghost use Rattle.std.specs.Prelude.{◌≡◌, ◌+◌, ◌<◌, ◌^◌, ◌∷◌, [], length, max, OnOk};
 ghost use Rattle.std.specs.List.{IsDistinct};
 ghost use Rattle.std.specs.Map.{keys_of};
 ghost use Rattle.std.specs.Str.{bytes_eq};
 ghost use Rattle.bk_keydir.specs.Keydir.{without_gone};
 ghost use Rattle.bk_keydir.specs.Slots.{has_open};
-ghost use Rattle.bk_load.specs.Learning.{AreFit, FitsVersion, Grows, Learns};
+ghost use Rattle.bk_load.specs.Learning.{AreFit, FitsVersion, Grows, KeepsWithin, Learns};
 
 use bk_base::{Key, Memory, Seq, Version};
 use bk_keydir::Keydir;
@@ -51,6 +51,8 @@ impl Learned {
             (Learns ((key, version) ∷ []) self.old.keys.entries self.new.keys.entries) }
         ensures grows { OnOk result
             (Grows version.file.0 version.size self.old.keys.entries self.new.keys.entries) }
+        ensures kept { OnOk result (KeepsWithin version.file (version.at + version.size)
+            self.old.keys.entries self.new.keys.entries) }
         ensures last { OnOk result (self.new.last ≡ max self.old.last version.seq.0) }
         ensures fit { AreFit self.old → OnOk result (AreFit self.new) }
     {
@@ -66,6 +68,7 @@ impl Learned {
     pub(crate) fn finish(self) -> (Keydir, Seq)
         ensures entries { result.0.entries ≡ without_gone self.keys.entries }
         ensures slots { result.0.slots ≡ self.keys.slots }
+        ensures few { length self.keys.entries < 2 ^ 63 }
         ensures once { IsDistinct bytes_eq (keys_of self.keys.entries) }
         ensures last { result.1.0 ≡ self.last }
     {

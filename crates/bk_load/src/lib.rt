@@ -21,7 +21,7 @@ mod settling;
 
 pub use bk_keydir::{HintNote, Loaded, Report, Torn};
 pub use errors::{LoadSettings, OpenError};
-pub use laws::recovery_keeps_log;
+pub use laws::{recovery_keeps_log, synced_lends_nothing};
 pub use opening::open;
 pub use recovery::recover;
 pub use settings_file::settings;

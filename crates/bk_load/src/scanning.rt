@@ -6,7 +6,7 @@ ghost use Rattle.bk_files.specs.Scan.{HasReadCause, IsTold, file_len};
 ghost use Rattle.bk_image.specs.Readings.{main};
 ghost use Rattle.bk_laws.specs.Record.{AreRecords};
 ghost use Rattle.bk_load.specs.Courses.{Course};
-ghost use Rattle.bk_load.specs.Learning.{AreFit};
+ghost use Rattle.bk_load.specs.Learning.{AreFit, KeepsWithin};
 ghost use Rattle.bk_load.specs.Scanning.{HasScanned};
 ghost use Rattle.bk_load.specs.Tidying.{NeedsScan};
 
@@ -40,6 +40,7 @@ pub(crate) fn scan_from<D: Disk>(
     ensures fronts { IsTrue D.tells → (D.told disk.new).fronts ≡ (D.told disk.old).fronts }
     ensures within { IfOk result (λ end. end ≤ len) }
     ensures fit { AreFit learned.old → OnOk result (AreFit learned.new) }
+    ensures kept { OnOk result (KeepsWithin file len learned.old.keys.entries learned.new.keys.entries) }
     ensures scanned { IsTrue D.tells → (bytes : List ℕ) (writes : List Write)
         → at (D.told disk.old).image (main file.0) ≡ Some bytes → AreRecords (drop from bytes) writes
         → IfOk result (λ end. HasScanned file from writes end learned.old learned.new) }
@@ -65,6 +66,8 @@ fn learn_records<V: View>(
         × HasScanned scan.old.file scan.old.place writes scan.new.place learned.old learned.new) }
     ensures len { file_len scan.new ≡ file_len scan.old }
     ensures fit { AreFit learned.old → OnOk result (AreFit learned.new) }
+    ensures kept { OnOk result (KeepsWithin scan.old.file (file_len scan.old)
+        learned.old.keys.entries learned.new.keys.entries) }
     ensures cause { HasReadCause (V.faults view.old) (V.faults view.new) (V.fallible view.old)
         (V.fallible view.new) result }
 {

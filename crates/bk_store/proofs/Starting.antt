@@ -1,10 +1,11 @@
 -- A store that was started over a sound directory stands for the log that was found.
-use Rattle.std.proofs.Common.{◌≡◌, ℕ, zero, suc, ◌+◌, Bool, false, List, [], ◌∷◌, Option, Some, None, refl, sym, ap, subst, ◌∙◌, arith}
+use Rattle.std.proofs.Common.{◌≡◌, ℕ, zero, suc, ◌+◌, Bool, false, List, [], ◌∷◌, Option, Some, None, refl, sym, ap, subst, ◌∙◌, inl, inr, arith}
 use Rattle.std.specs.Prelude.{IsTrue}
 use Rattle.std.specs.Option.{IsSome, option_map, unwrap_or}
 use Rattle.std.proofs.lemmas.Bool.{true≢false}
 use Rattle.bk_base.specs.declared.names.Name.{Name}
 use Rattle.bk_base.specs.declared.rows.Row.{Row}
+use Rattle.bk_base.specs.declared.writes.Version.{Version}
 use Rattle.bk_base.specs.declared.writes.Write.{Write}
 use Rattle.bk_disk.specs.Crashes.{IsSynced, front_of}
 use Rattle.bk_disk.specs.Told.{Image, Told, at}
@@ -14,14 +15,15 @@ use Rattle.bk_files.specs.Catalog.{Known, main}
 use Rattle.bk_files.specs.Files.{IsConsistent}
 use Rattle.bk_files.specs.Rows.{AreAtRest, AreSyncedIfSealed}
 use Rattle.bk_image.specs.Known.{known_of}
+use Rattle.bk_image.specs.Readings.{In}
 use Rattle.bk_image.proofs.HoldsOpening.{holds_opens}
 use Rattle.bk_keydir.specs.declared.loads.Loaded.{Loaded}
 use Rattle.bk_keydir.specs.declared.slots.Slot.{Slot}
-use Rattle.bk_keydir.specs.Keydir.{Shown as KeydirShown}
+use Rattle.bk_keydir.specs.Keydir.{Entry, Shown as KeydirShown}
 use Rattle.bk_keydir.specs.Slots.{IsOpen, has_open, slot_at}
-use Rattle.bk_store.specs.Shown.{IsSteady, Shown, active_file, known_bytes}
+use Rattle.bk_store.specs.Shown.{IsFit, IsSteady, Shown, active_file, known_bytes}
 use Rattle.bk_store.specs.Standing.{StandsFor}
-use Rattle.bk_store.specs.Starting.{AreFilesOf, IsInOrder, IsLoadOf, opening_of}
+use Rattle.bk_store.specs.Starting.{AreFilesOf, HasOnePut, IsInOrder, IsLoadOf, opening_of}
 
 -- no fold is open in any slot
 pub no_slot : (slots : List (Option Slot)) (n : ℕ) → has_open slots ≡ false → slot_at slots n ≡ None
@@ -49,6 +51,13 @@ rows_synced t low high (r ∷ rs) synced rest = (
   whole None there = absurd (true≢false (sym there))
   whole (Some b) there = refl
 
+-- the only version of a key fits it
+only_fits : (seq : ℕ) (rows : List Row) (e : Entry) (v : Version) → HasOnePut seq rows e → In v e.1 → IsFit seq e.0 v
+only_fits seq rows e v one there = go (subst (In v) one.alone there) where
+  go : In v (one.version ∷ []) → IsFit seq e.0 v
+  go (inl is) = subst (IsFit seq e.0) (sym is) one.fit
+  go (inr later) = absurd later
+
 pub steady_start : (tells : Bool) (v : Shown) (l : Loaded) → IsInOrder l → v.keys ≡ l.keydir → v.seq ≡ l.last_seq.0
     → (IsTrue tells → IsConsistent v.files) → IsSteady tells v.files v.keys v.seq
 steady_start tells v l order keys seq consistent =
@@ -59,7 +68,7 @@ steady_start tells v l order keys seq consistent =
       last = order.seq;
       slots = order.slots;
       epochs = λ s is_open. absurd (none_is_open l.keydir.slots s order.no_fold is_open);
-      versions = order.versions;
+      versions = λ e v is_in there. only_fits l.last_seq.0 l.rows.items e v (order.keys e is_in) there;
     }))
 
 pub start_stands : (v : Shown) (t : Told) (l : Loaded) (log : List Write) (max_file : ℕ) → v.files.told ≡ t

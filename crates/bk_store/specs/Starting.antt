@@ -1,8 +1,9 @@
 -- What a load of a directory has to give for a store to start.
-use Rattle.std.specs.Prelude.{◌≡◌, ℕ, ◌+◌, ◌<◌, ◌≤◌, true, false, List, [], length, is_some}
+use Rattle.std.specs.Prelude.{◌≡◌, ℕ, ◌+◌, ◌<◌, ◌≤◌, true, false, List, [], ◌∷◌, length, is_some, Some}
 use Rattle.bk_base.specs.declared.histories.Opening.{Opening}
-use Rattle.bk_base.specs.declared.limits.TheConstants.{LAST_SEQ, MOST_FOLDS}
+use Rattle.bk_base.specs.declared.limits.TheConstants.{LAST_SEQ, LONGEST_VALUE, MOST_FOLDS, RECORD_HEADER}
 use Rattle.bk_base.specs.declared.names.Name.{Name}
+use Rattle.bk_base.specs.declared.rows.Row.{Row}
 use Rattle.bk_base.specs.declared.writes.Version.{Version}
 use Rattle.bk_base.specs.declared.writes.Write.{Write}
 use Rattle.bk_disk.specs.Told.{IsAbsent, Told, at, bytes_of}
@@ -12,6 +13,7 @@ use Rattle.bk_image.specs.CountedFiles.{HasNoList}
 use Rattle.bk_image.specs.Readings.{In}
 use Rattle.bk_image.specs.SoundDirectory.{IsSoundDisk}
 use Rattle.bk_keydir.specs.declared.loads.Loaded.{Loaded}
+use Rattle.bk_keydir.specs.Counts.{refs_of}
 use Rattle.bk_keydir.specs.Keydir.{Entry}
 use Rattle.bk_keydir.specs.Slots.{has_open}
 use Rattle.bk_laws.specs.Log.{last_seq}
@@ -19,12 +21,26 @@ use Rattle.bk_store.specs.Rows.{RowsStand}
 use Rattle.bk_store.specs.Shown.{IsFit, Shown, settings_of, snapshot_of}
 use Rattle.bk_store.specs.Versions.{KeysStand}
 
--- over every disk: no fold is open, and each version fits its key and was given out
+-- The key has one version, a put that was given out. It is as long as a record of the key can be, and
+-- its record ends within the file of one of these rows.
+pub record HasOnePut (seq : ℕ) (rows : List Row) (e : Entry) : Type 0 where
+  pub version : Version
+  pub alone : e.1 ≡ version ∷ []
+  pub put : version.gone ≡ false
+  pub first : 1 ≤ version.seq.0
+  pub fit : IsFit seq e.0 version
+  pub most : version.size ≤ RECORD_HEADER + length e.0 + LONGEST_VALUE
+  pub row : Row
+  pub named : row_of version.file.0 rows ≡ Some row
+  pub within : version.at + version.size ≤ row.len
+
+-- over every disk, whatever it tells
 pub record IsInOrder (l : Loaded) : Type 0 where
   pub seq : l.last_seq.0 ≤ LAST_SEQ
   pub no_fold : has_open l.keydir.slots ≡ false
   pub slots : length l.keydir.slots ≡ MOST_FOLDS
-  pub versions : (e : Entry) (v : Version) → In e l.keydir.entries → In v e.1 → IsFit l.last_seq.0 e.0 v
+  pub keys : (e : Entry) → In e l.keydir.entries → HasOnePut l.last_seq.0 l.rows.items e
+  pub refs : (id : ℕ) (r : Row) → row_of id l.rows.items ≡ Some r → r.refs ≡ refs_of id l.keydir.entries
 
 -- where the disk tells: each row's file is there with the row's length, and no file has a later id
 pub record AreFilesOf (t : Told) (l : Loaded) : Type 0 where

@@ -1,4 +1,4 @@
-use Rattle.std.proofs.Common.{◌≡◌, ◌∙◌, ℕ, Some, ap, length, rules, sym, subst}
+use Rattle.std.proofs.Common.{◌≡◌, ◌∙◌, ℕ, Some, ap, length, refl, rules, sym, subst}
 use Rattle.std.specs.Option.{is_some, option_map}
 use Rattle.bk_disk.specs.Told.{Image, at}
 use Rattle.bk_image.specs.Readings.{hint, main}
@@ -7,6 +7,7 @@ use Rattle.bk_load.specs.Hints.{HasTaken}
 use Rattle.bk_load.specs.Tidying.{NeedsScan}
 use Rattle.bk_load.proofs.Courses.{came_trans, course_after, course_ok}
 use Rattle.bk_load.proofs.Listings.{map_some}
+use Rattle.bk_load.proofs.Places.{found_one, within_more}
 use Rattle.bk_load.proofs.ReadFiles.{file_read, needs_scan, ours}
 use Rattle.bk_load.proofs.files.read_file.Goals as goal
 
@@ -72,3 +73,8 @@ returns-clause-course g c =
     course_ok _ _ _ _
     (came_trans _ _ _ _ (came_trans _ _ _ _ c.sync_file.ensures.course.came c.read_hint_if_there.ensures.course.came)
     c.scan_from.ensures.course.came)
+
+pub returns-clause-kept : goal.returns-clause-kept
+returns-clause-kept g c =
+    found_one _ c.args.file c.args.len _ _ refl refl
+    (within_more c.args.file c.args.len _ _ _ c.in_ok-verdict.ensures.kept c.in_ok-total.ensures.kept)

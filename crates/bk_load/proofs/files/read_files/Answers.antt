@@ -5,7 +5,7 @@ use Rattle.bk_base.specs.declared.numbers.FileId.{FileId}
 use Rattle.bk_disk.specs.Told.{Image, at}
 use Rattle.bk_image.specs.Readings.{hint, main}
 use Rattle.bk_load.specs.Directory.{RiseFrom}
-use Rattle.bk_load.specs.Found.{HaveRead, IsFound, IsUncounted}
+use Rattle.bk_load.specs.Found.{HaveRead, IsFound, IsUncounted, KeepsFound}
 use Rattle.bk_load.specs.Steps.{IsSyncedFile}
 use Rattle.bk_load.specs.declared.files.FileFound.{FileFound}
 use Rattle.bk_load.proofs.Courses.{came_trans, course_after, course_memory}
@@ -13,6 +13,7 @@ use Rattle.bk_load.proofs.FoundFiles.{all_behind, found_all, found_ids, found_ri
 use Rattle.bk_load.proofs.Listings.{len_at_now}
 use Rattle.bk_load.proofs.Numbering.{are_numbers, number_len}
 use Rattle.bk_load.proofs.ReadLists.{from_low}
+use Rattle.bk_load.proofs.Places.{found_more}
 use Rattle.bk_load.proofs.files.read_files.Goals as goal
 
 pub read_file-requires-clause-first : goal.read_file-requires-clause-first
@@ -48,6 +49,10 @@ files-preserved g c = record {
   came = came_trans _ _ _ _ c.files.invariant.came c.read_file.ensures.course.came;
   image = λ tells. c.read_file.ensures.image tells ∙ c.files.invariant.image tells;
   fit = λ fit. c.in_ok-this.ensures.fit (c.files.invariant.fit fit);
+  kept =
+      subst (λ (fs : List FileFound). KeepsFound fs c.args.learned.now.keys.entries c.read_file.new.learned.keys.entries)
+      (sym c.in_ok-push.ensures.items)
+      (found_more c.files.found.items c.in_ok-this.this _ _ _ c.files.invariant.kept c.in_ok-this.ensures.kept);
   ids =
       ap found_ids c.in_ok-push.ensures.items
       ∙ ids_more _ _ _ c.files.found.items c.in_ok-this.this c.files-test.true c.files.invariant.ids

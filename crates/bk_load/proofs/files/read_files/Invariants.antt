@@ -7,7 +7,7 @@ use Rattle.bk_image.specs.Readings.{Books, bytes_in, main}
 use Rattle.bk_image.specs.RecoveredLog.{HintsTrue}
 use Rattle.bk_laws.specs.Record.{AreRecords}
 use Rattle.bk_load.specs.Courses.{Came}
-use Rattle.bk_load.specs.Found.{HaveRead, IsFound, IsUncounted}
+use Rattle.bk_load.specs.Found.{HaveRead, IsFound, IsUncounted, KeepsFound}
 use Rattle.bk_load.specs.Learning.{AreFit}
 use Rattle.bk_load.specs.Steps.{IsSyncedFile}
 use Rattle.bk_load.specs.declared.files.FileFound.{FileFound}
@@ -31,6 +31,7 @@ invariant-files g l = record {
       });
   image : IsTrue g.D.Disk.tells → (g.D.Disk.told l.disk).image ≡ (g.D.Disk.told l.fn.disk).image;
   fit : AreFit l.fn.learned → AreFit l.learned;
+  kept : KeepsFound l.found.items l.fn.learned.keys.entries l.learned.keys.entries;
   ids : found_ids l.found.items ≡ ids_of (take l.main-index l.main-items);
   uncounted : AllByRecursion IsUncounted l.found.items;
   found : IsTrue g.D.Disk.tells → AllByRecursion (IsFound (at (g.D.Disk.told l.fn.disk).image)) l.found.items;

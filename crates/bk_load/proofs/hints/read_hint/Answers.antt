@@ -3,8 +3,9 @@ use Rattle.bk_base.specs.declared.names.Name.{Name}
 use Rattle.bk_disk.specs.Told.{at, range_of}
 use Rattle.bk_hint.specs.Verdicts.{IsVerdict}
 use Rattle.bk_image.specs.Readings.{hint}
-use Rattle.bk_load.proofs.Hinted.{verdict_none, verdict_taken}
+use Rattle.bk_load.proofs.Hinted.{verdict_kept, verdict_none, verdict_taken}
 use Rattle.bk_load.proofs.Listings.{whole_range, whole_within}
+use Rattle.bk_load.proofs.Places.{within_none}
 use Rattle.bk_load.proofs.Tidied.{none_needed}
 use Rattle.bk_load.proofs.hints.read_hint.Goals as goal
 use Rattle.bk_load.proofs.hints.read_hint.Goals.{then-is_usable+in_ok-learn_rows, else-is_usable}
@@ -27,6 +28,17 @@ returns-clause-judged g c = λ tells bytes is.
     c.deref.ensures.value ∙ c.in_ok-bytes.ensures.bytes tells ∙ ap (λ (n : Name). range_of n 0 c.args.size image) c.named.ensures
     ∙ whole_range image (hint c.args.file.0) bytes c.args.size is (ap length (sym one) ∙ there.2) in
     subst (λ (b : List ℕ). IsVerdict b c.args.len c.judge-verdict.result) text c.judge-verdict.ensures
+
+pub returns-clause-kept : goal.returns-clause-kept
+returns-clause-kept g c = elim c.if-is_usable.branch [
+  | then-is_usable+in_ok-learn_rows w ↦
+      let text : w.deref-then-is_usable.result.now ≡ c.deref.result.now =
+      w.deref-then-is_usable.ensures.value ∙ sym c.deref.ensures.value in
+      rw w.learned-is
+      (verdict_kept c.deref.result.now c.args.file c.args.len c.judge-verdict.result _ _ c.judge-verdict.ensures
+      (sym c.is_usable.ensures ∙ w.if-is_usable.true) (rw text at w.in_ok-learn_rows.ensures.kept))
+  | else-is_usable w ↦ rw w.learned-is (within_none c.args.file c.args.len c.args.learned.now.keys.entries)
+]
 
 pub returns-clause-taken : goal.returns-clause-taken
 returns-clause-taken g c = λ tells bytes writes is tells_truth fit.

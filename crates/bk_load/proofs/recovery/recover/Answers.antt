@@ -62,9 +62,10 @@ returns-clause-course g c = record {
 pub returns-clause-order : goal.returns-clause-order
 returns-clause-order g c =
     if_ok_map c.assemble.result _ _
-    (λ l a. is_in_order _ _ _ _ l a
-    (c.in_ok-files.ensures.fit (fit_new _ c.new-learned.ensures.entries c.new-learned.ensures.last)))
-    c.assemble.ensures.loaded
+    (λ l a. is_in_order _ _ _ _ _ l a
+    (c.in_ok-files.ensures.fit (fit_new _ c.new-learned.ensures.entries c.new-learned.ensures.last))
+    c.in_ok-files.ensures.rise c.in_ok-files.ensures.uncounted c.new-learned.ensures.entries c.in_ok-files.ensures.kept)
+    (rw c.deref-5.ensures.value at c.assemble.ensures.loaded)
 
 pub returns-clause-files : goal.returns-clause-files
 returns-clause-files g c = λ tells.

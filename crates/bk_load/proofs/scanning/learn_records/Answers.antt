@@ -1,5 +1,6 @@
 use Rattle.std.proofs.Common.{◌∙◌, arith, refl}
-use Rattle.bk_load.proofs.Scans.{found_fits, scanning_more, scanning_none}
+use Rattle.bk_load.proofs.Places.{within_at, within_more, within_none}
+use Rattle.bk_load.proofs.Scans.{found_fits, found_within, scanning_more, scanning_none}
 use Rattle.bk_load.proofs.scanning.learn_records.Goals as goal
 
 pub records-init : goal.records-init
@@ -9,6 +10,7 @@ records-init g c = record {
   len = refl;
   file = refl;
   so = λ told. scanning_none _ _ _ _;
+  kept = within_none _ _ _;
   fit = λ fit. fit;
   later = omega arith;
   fallible = refl;
@@ -33,6 +35,14 @@ records-preserved g c = record {
         grows = c.in_ok-learn.ensures.grows;
         last = c.in_ok-learn.ensures.last;
       });
+  kept =
+      let placed = rw c.in-Some.is at c.in_ok-found.ensures.placed in
+      let ends = found_within c.in-Some.found _ _ placed in
+      let at = ends.1 in
+      let now = c.next_key.ensures.len in
+      let before = c.records.invariant.len in
+      within_more _ _ _ _ _ c.records.invariant.kept
+      (within_at _ _ _ _ _ _ (ends.0 ∙ c.records.invariant.file) (omega (arith, at, now, before)) c.in_ok-learn.ensures.kept);
   fit = λ fit. c.in_ok-learn.ensures.fit (c.records.invariant.fit fit);
   later = let p = c.next_key.ensures.cause.later in let q = c.records.invariant.later in omega (arith, p, q);
   fallible = c.next_key.ensures.cause.fallible ∙ c.records.invariant.fallible;

@@ -1,10 +1,11 @@
-use Rattle.std.proofs.Common.{◌≡◌, ◌∙◌, ◌-◌, Some, ap, drop, length, sym}
+use Rattle.std.proofs.Common.{◌≡◌, ◌∙◌, ◌-◌, Some, ap, arith, drop, length, refl, sym}
 use Rattle.bk_base.specs.declared.names.Name.{Name}
 use Rattle.bk_disk.specs.Told.{at, range_of}
 use Rattle.bk_files.specs.Scan.{IsTold}
 use Rattle.bk_image.specs.Readings.{main}
 use Rattle.bk_load.proofs.Courses.{came_refl, course_ok}
 use Rattle.bk_load.proofs.Listings.{rest_range, rest_within}
+use Rattle.bk_load.proofs.Places.{within_at, within_none}
 use Rattle.bk_load.proofs.Scans.{scan_is, scan_nothing}
 use Rattle.bk_load.proofs.Tidied.{data_needed}
 use Rattle.bk_load.proofs.scanning.scan_from.Goals as goal
@@ -45,3 +46,12 @@ returns-clause-scanned g c = λ tells bytes writes there are.
     ∙ rest_range image (main c.args.file.0) bytes c.args.from c.args.len there long in
     rw c.place.ensures.place
     (scan_is c.args.file c.args.from bytes _ writes found.0 _ _ _ text found.1 are found.2)
+
+pub returns-then-from-len-clause-kept : goal.returns-then-from-len-clause-kept
+returns-then-from-len-clause-kept g c = within_none c.args.file c.args.len c.args.learned.now.keys.entries
+
+pub returns-clause-kept : goal.returns-clause-kept
+returns-clause-kept g c =
+    let inside = c.requires.inside in
+    let kept = rw c.from-scan.ensures at c.in_ok-learn_records.ensures.kept in
+    within_at _ c.args.file _ c.args.len _ _ refl (omega (arith, inside)) kept
