@@ -28,6 +28,7 @@ use Rattle.bk_store.specs.declared.errors.LocateError.{LocateError}
 use Rattle.bk_store.specs.declared.errors.LocateError.TheVariants.{Disk as locate_disk, Memory as locate_memory}
 use Rattle.bk_store.specs.declared.errors.PutError.{PutError}
 use Rattle.bk_store.specs.declared.errors.PutError.TheVariants.{FullSeq, FullFiles, Disk as put_disk, Memory as put_memory}
+use Rattle.bk_store.specs.Appends.{tried_by}
 use Rattle.bk_store.specs.Events.{CrashMeets, IsStepOf, Keeps, KeepsPast, Refuses, clock_of, entry_by, next_write, quiet_by}
 use Rattle.bk_store.specs.Events.{GoesOn as GoesOnAlways}
 use Rattle.bk_store.specs.History.{kept_of}
@@ -146,13 +147,18 @@ put_due w v u FullFiles o h why stood =
 put_due w v u put_disk o h why stood = tt
 put_due w v u put_memory o h why stood = tt
 
-left_alone : (more left : List Write) → (left ≡ []) ⊎ ((left ≡ []) ⊎ (left ≡ more)) → IsLeft more left
-left_alone more left (inl none) = inl none
-left_alone more left (inr either) = either
+left_alone : (w : Write) (left : List Write) (e : PutError)
+    → (left ≡ []) ⊎ ((left ≡ []) ⊎ (left ≡ tried_by e w)) → IsLeft (w ∷ []) left
+left_alone w left e (inl none) = inl none
+left_alone w left e (inr (inl none)) = inl none
+left_alone w left FullSeq (inr (inr is)) = inl is
+left_alone w left FullFiles (inr (inr is)) = inl is
+left_alone w left put_disk (inr (inr is)) = inr is
+left_alone w left put_memory (inr (inr is)) = inl is
 
 pub put_fails : (tells : Bool) (key value : List ℕ) (now : Moment) (e : PutError) (v u : Shown) → KeepsRest v u
     → IsWriteError (next_write v now key (put_body value)) v u e
-    → (IsTrue tells → (who : ℕ) → Refuses tells who (next_write v now key (put_body value) ∷ []) v u)
+    → (IsTrue tells → (who : ℕ) → Refuses tells who (tried_by e (next_write v now key (put_body value))) v u)
     → (IsTrue tells → KeepsPast v.files.told u.files.told)
     → (IsTrue tells → CrashMeets (next_write v now key (put_body value) ∷ []) v u)
     → Fails tells (of_put e) (Put key value) now v u
@@ -169,7 +175,7 @@ put_fails tells key value now e v u rest why refuses past crash =
             (
               left,
               subst (λ (more : List Write). IsLeft more left) (tried_next v key value now o h stood)
-                  (left_alone (next_write v now key (put_body value) ∷ []) left of),
+                  (left_alone (next_write v now key (put_body value)) left e of),
               advances tells (tries (Put key value) now (log_of o h)) v u step o h left tell is stands (past tell)
                   (crash_tried v u key value now o h (crash tell) stood),
             ),

@@ -14,7 +14,7 @@ use Rattle.bk_laws.specs.Log.{is_fresh, winner}
 use Rattle.bk_store.specs.declared.errors.PutError.{PutError}
 use Rattle.bk_store.specs.declared.errors.PutError.TheVariants.{FullSeq, FullFiles, Disk, Memory}
 use Rattle.bk_store.specs.declared.puts.Stored.{Stored}
-use Rattle.bk_store.specs.Appends.{PutsNothing, PutsWrite}
+use Rattle.bk_store.specs.Appends.{PutsNothing, PutsWrite, tried_by}
 use Rattle.bk_store.specs.Events.{GoesOn, Keeps, Refuses, entry_by, next_write}
 use Rattle.bk_store.specs.Loans.{is_put}
 use Rattle.bk_store.specs.Shown.{Shown, known_bytes}
@@ -30,11 +30,11 @@ seq_kept w v u Memory h = h.1
 
 pub refused : {T : Type 0} (tells : Bool) (v u : Shown) (now : Moment) (key : List ℕ) (body : Body) (r : Result T PutError)
     → IfErr r (IsWriteError (next_write v now key body) v u) → KeepsRest v u
-    → OnErr r (PutsNothing (next_write v now key body) v.files v.keys u.files u.keys)
-    → OnErr r ((who : ℕ) → Refuses tells who (next_write v now key body ∷ []) v u)
+    → IfErr r (λ e. PutsNothing e (next_write v now key body) v.files v.keys u.files u.keys)
+    → IfErr r (λ e. (who : ℕ) → Refuses tells who (tried_by e (next_write v now key body)) v u)
 refused tells v u now key body (Ok x) error rest nothing = tt
 refused tells v u now key body (Err e) error rest nothing =
-    λ who. refuses_write tells v u who (next_write v now key body) rest.settings
+    λ who. refuses_write tells v u who e (next_write v now key body) rest.settings
     (seq_kept (next_write v now key body) v u e error) refl nothing
 
 pub put_ok : (tells : Bool) (v u : Shown) (now : Moment) (key value : List ℕ) (r : Result Stored PutError)

@@ -13,14 +13,16 @@ use Rattle.bk_files.specs.Catalog.{Grows, Known, due_of, grown_of, id_of, mended
 use Rattle.bk_files.specs.Files.{HalfRepaired, HalfRolled, IsConsistent, Repaired, Seen, active_len, active_name, is_due}
 use Rattle.bk_files.specs.Rows.{IsRecord}
 use Rattle.bk_store.specs.declared.appending.Place.{Place}
-use Rattle.bk_store.specs.Appends.{Appends, DoesNotAppend, IsRolledFor, KeepsFacts, RollsNot, WhyNoAppend, WhyNoRoll}
+use Rattle.bk_store.specs.declared.errors.PutError.{PutError}
+use Rattle.bk_store.specs.declared.errors.PutError.TheVariants.{Disk}
+use Rattle.bk_store.specs.Appends.{Appends, DoesNotAppend, IsRolledFor, KeepsFacts, RollsNot, WhyNoAppend, WhyNoRoll, tried_by}
 use Rattle.bk_store.specs.Errors.{put_error_of}
 use Rattle.bk_store.specs.Standing.{Content, FilesStand}
-use Rattle.bk_store.proofs.Stages.{Stage, begun_of, stage_appended, stage_begins, stage_ends, stage_half_repaired, stage_half_rolled, stage_part, stage_repaired, stage_rolled, stage_same}
+use Rattle.bk_store.proofs.Stages.{Stage, begun_of, stage_appended, stage_begins, stage_clean, stage_ends, stage_half_repaired, stage_half_rolled, stage_part, stage_repaired, stage_rolled, stage_same}
 
 -- the repair was refused
 pub not_repaired : (tells : Bool) (text : List ℕ) (old new : Seen) → IsTrue tells → HalfRepaired tells old new
-    → KeepsFacts old new → DoesNotAppend text old new
+    → KeepsFacts old new → DoesNotAppend Disk text old new
 not_repaired tells text old new tell half facts c w h may =
     let e = begun_of old c (w ∷ []) in
     stage_ends old new c (w ∷ []) c.tried h (omega arith)
@@ -48,29 +50,28 @@ module _ (tells : Bool) (old mid : Seen) (tell : IsTrue tells) (repaired : Repai
       stage_same (begun_of old c (w ∷ [])) old new last [] (was_rolled rolled new is after) told catalog consistent
 
 -- the roll was refused
-pub not_rolled : (tells : Bool) (text : List ℕ) (old mid new : Seen) → IsTrue tells → Repaired tells old mid → KeepsFacts old mid
-    → HalfRolled mid new → new.catalog ≡ mid.catalog → KeepsFacts mid new → DoesNotAppend text old new
-not_rolled tells text old mid new tell repaired facts half catalog after c w h may =
+pub not_rolled : (tells : Bool) (e : PutError) (text : List ℕ) (old mid new : Seen) → IsTrue tells → Repaired tells old mid
+    → KeepsFacts old mid → HalfRolled mid new → new.catalog ≡ mid.catalog → KeepsFacts mid new → DoesNotAppend e text old new
+not_rolled tells e text old mid new tell repaired facts half catalog after c w h may =
     let s = was_repaired tells old mid tell repaired facts c w h in
-    stage_ends old new c (w ∷ []) [] h (omega arith)
+    stage_clean old new c (w ∷ []) (tried_by e w) h (omega arith)
     (stage_half_rolled (begun_of old c (w ∷ [])) old mid new s half catalog after.consistent (after.totals s.totals)
     (after.synced s.synced))
-    (λ not_torn. refl)
 
 -- no room was made
-pub not_ready : (tells rolled : Bool) (text : List ℕ) (old mid new last : Seen) → IsTrue tells → Repaired tells old mid
-    → KeepsFacts old mid → IsRolledFor tells rolled mid new → KeepsFacts mid new → last.told ≡ new.told
-    → last.catalog ≡ new.catalog → IsConsistent last → DoesNotAppend text old last
-not_ready tells rolled text old mid new last tell repaired facts is after told catalog consistent c w h may =
-    stage_ends old last c (w ∷ []) [] h (omega arith)
-    (was_ready tells old mid tell repaired facts c w h rolled new last is after told catalog consistent) (λ not_torn. refl)
+pub not_ready : (tells rolled : Bool) (e : PutError) (text : List ℕ) (old mid new last : Seen) → IsTrue tells
+    → Repaired tells old mid → KeepsFacts old mid → IsRolledFor tells rolled mid new → KeepsFacts mid new
+    → last.told ≡ new.told → last.catalog ≡ new.catalog → IsConsistent last → DoesNotAppend e text old last
+not_ready tells rolled e text old mid new last tell repaired facts is after told catalog consistent c w h may =
+    stage_clean old last c (w ∷ []) (tried_by e w) h (omega arith)
+    (was_ready tells old mid tell repaired facts c w h rolled new last is after told catalog consistent)
 
 -- the append failed
 pub not_appended : (tells rolled : Bool) (text : List ℕ) (old mid new last now : Seen) (n : ℕ) → IsTrue tells
     → Repaired tells old mid → KeepsFacts old mid → IsRolledFor tells rolled mid new → KeepsFacts mid new
     → last.told ≡ new.told → last.catalog ≡ new.catalog → IsConsistent last → is_due (length text) last ≡ false
     → now.catalog ≡ torn last.catalog → Appended (active_name last) n text last.told now.told → KeepsFacts last now
-    → DoesNotAppend text old now
+    → DoesNotAppend Disk text old now
 not_appended tells rolled text old mid new last now n tell repaired facts is after told catalog consistent due tore b left c w h may =
     let s = was_ready tells old mid tell repaired facts c w h rolled new last is after told catalog consistent in
     stage_part old last now c w text n h s may due tore b left.consistent (left.totals s.totals) (left.synced s.synced)

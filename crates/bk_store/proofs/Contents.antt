@@ -173,10 +173,10 @@ content_stays ttl files new keys now c kept left h disk known rows slots entries
 }
 
 -- nothing was appended
-pub content_kept : (ttl : ℕ) (files new : Seen) (keys now : KeydirShown) (c : Content) (more : List Write)
-    → ContentStands ttl files keys c → (n : IsNotAppended files new c more) → now.slots ≡ keys.slots
+pub content_kept : (ttl : ℕ) (files new : Seen) (keys now : KeydirShown) (c : Content) (more tries : List Write)
+    → ContentStands ttl files keys c → (n : IsNotAppended files new c more tries) → now.slots ≡ keys.slots
     → now.entries ≡ keys.entries → ContentStands ttl new now (with_tried n.left c)
-content_kept ttl files new keys now c more h n slots entries =
+content_kept ttl files new keys now c more tries h n slots entries =
     content_stays ttl files new keys now c c.kept n.left h n.disk n.known n.rows slots entries
 
 -- no file changed, nor what is known of one

@@ -20,7 +20,8 @@ use Rattle.bk_laws.specs.History.{IsReply, log_of, state_after}
 use Rattle.bk_laws.specs.Log.{is_fresh, last_seq, live_in, put_of, winner}
 use Rattle.bk_laws.specs.Version.{is_tombstone}
 use Rattle.bk_laws.specs.History.{is_expired as is_expired_in}
-use Rattle.bk_store.specs.Appends.{CrashMeetsPut, PutsNothing, PutsWrite, with_write}
+use Rattle.bk_store.specs.declared.errors.PutError.{PutError}
+use Rattle.bk_store.specs.Appends.{CrashMeetsPut, PutsNothing, PutsWrite, tried_by, with_write}
 use Rattle.bk_store.specs.Events.{CrashMeets, GoesOn, Keeps, Refuses, entry_by, next_write, quiet_by}
 use Rattle.bk_store.specs.Loans.{is_live, is_put}
 use Rattle.bk_store.specs.Shown.{Shown, known_bytes}
@@ -101,9 +102,10 @@ goes_on_write tells v u e w settings seq next puts same reply o h tried s stood 
     (puts v.settings.ttl (content_of o h tried) stood.content (omega (arith, next, stood.seq))))
 
 -- the call was refused
-pub refuses_write : (tells : Bool) (v u : Shown) (who : ℕ) (w : Write) → u.settings ≡ v.settings → u.seq ≡ v.seq
-    → w.seq.0 ≡ v.seq + 1 → PutsNothing w v.files v.keys u.files u.keys → Refuses tells who (w ∷ []) v u
-refuses_write tells v u who w settings seq next nothing o h tried s stood step is =
+pub refuses_write : (tells : Bool) (v u : Shown) (who : ℕ) (e : PutError) (w : Write) → u.settings ≡ v.settings
+    → u.seq ≡ v.seq → w.seq.0 ≡ v.seq + 1 → PutsNothing e w v.files v.keys u.files u.keys
+    → Refuses tells who (tried_by e w) v u
+refuses_write tells v u who e w settings seq next nothing o h tried s stood step is =
     let (left, is_left, content) =
     nothing v.settings.ttl (content_of o h tried) stood.content (omega (arith, next, stood.seq)) in (
       left,

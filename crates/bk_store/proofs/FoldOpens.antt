@@ -78,6 +78,18 @@ first_is_free slots n is = go (nat_lt (position_or_len is_none slots) (length sl
   go true low e = at n (cc e) (grind (arith, nat_tests, low))
   go false low e = absurd (cc e)
 
+-- no slot is free
+pub none_is_free : (slots : List (Option Slot)) (n : ℕ) → first_free slots ≡ None → n < length slots
+    → is_some (slot_at slots n) ≡ true
+none_is_free slots n is low = go (nat_lt (position_or_len is_none slots) (length slots)) refl is where
+  go : (b : Bool) → nat_lt (position_or_len is_none slots) (length slots) ≡ b
+      → cond b (Some (position_or_len is_none slots)) None ≡ None → is_some (slot_at slots n) ≡ true
+  go true some e = absurd (cc e)
+  go false none e =
+      let past_all : length slots ≤ position_or_len is_none slots = grind (arith, nat_tests, none) in
+      subst (λ (o : Option Slot). is_some o ≡ true) (sym (slot_get slots n))
+      (some_is (get_or slots n None) (fails_before_first is_none slots n None (omega (arith, past_all, low))))
+
 -- ---- the folds of a slot
 
 pub filter_none : {X : Type 0} (p : X → Bool) (xs : List X) → filter p xs ≡ [] → list_any p xs ≡ false

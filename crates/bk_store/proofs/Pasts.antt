@@ -77,26 +77,31 @@ goes_then tells s m u a b = record {
   later = omega (arith, a.later, b.later);
   views = b.views ∙ a.views;
   outs = b.outs ∙ a.outs;
+  limit = b.limit ∙ a.limit;
 }
 
 pub goes_passes : (tells : Bool) (s u : Seen) → (IsTrue tells → IsConsistent u) → (IsTrue tells → Passes s.told u.told)
-    → s.faults ≤ u.faults → u.fallible_views ≡ s.fallible_views → u.fallible_outs ≡ s.fallible_outs → FilesGo tells s u
-goes_passes tells s u consistent passes later views outs = record {
+    → s.faults ≤ u.faults → u.fallible_views ≡ s.fallible_views → u.fallible_outs ≡ s.fallible_outs
+    → u.catalog.max_file ≡ s.catalog.max_file → FilesGo tells s u
+goes_passes tells s u consistent passes later views outs limit = record {
   consistent = consistent;
   past = λ tell. past_passes s.told u.told (passes tell);
   later = later;
   views = views;
   outs = outs;
+  limit = limit;
 }
 
 pub goes_still : (tells : Bool) (s u : Seen) → (IsTrue tells → IsConsistent u) → (IsTrue tells → u.told ≡ s.told)
-    → s.faults ≤ u.faults → u.fallible_views ≡ s.fallible_views → u.fallible_outs ≡ s.fallible_outs → FilesGo tells s u
-goes_still tells s u consistent told later views outs = record {
+    → s.faults ≤ u.faults → u.fallible_views ≡ s.fallible_views → u.fallible_outs ≡ s.fallible_outs
+    → u.catalog ≡ s.catalog → FilesGo tells s u
+goes_still tells s u consistent told later views outs catalog = record {
   consistent = consistent;
   past = λ tell. past_same s.told u.told (told tell);
   later = later;
   views = views;
   outs = outs;
+  limit = ap (λ (k : Known). k.max_file) catalog;
 }
 
 pub goes_repaired : (tells : Bool) (s u : Seen) → Repaired tells s u → (IsTrue tells → IsConsistent u)
@@ -107,6 +112,7 @@ goes_repaired tells s u repaired consistent later views outs = record {
   later = later;
   views = views;
   outs = outs;
+  limit = ap (λ (k : Known). k.max_file) repaired.catalog;
 }
 
 -- the counts alone changed
@@ -117,9 +123,16 @@ goes_counted tells s u consistent alone = record {
   later = omega (arith, ap (λ (x : Seen). x.faults) alone.same);
   views = ap (λ (x : Seen). x.fallible_views) alone.same;
   outs = ap (λ (x : Seen). x.fallible_outs) alone.same;
+  limit = ap (λ (x : Seen). x.catalog.max_file) alone.same;
 }
 
 -- ---- a sync
+
+-- whether it was refused or not, the limit stays
+pub limit_half : (tells : Bool) (s u : Seen) → HalfRepaired tells s u ⊎ Repaired tells s u
+    → u.catalog.max_file ≡ s.catalog.max_file
+limit_half tells s u (inl half) = ap (λ (k : Known). k.max_file) half.catalog
+limit_half tells s u (inr repaired) = ap (λ (k : Known). k.max_file) repaired.catalog
 
 pub past_synchronized : (tells : Bool) (s u : Seen) → IsTrue tells → Synchronized tells s u → KeepsPast s.told u.told
 past_synchronized tells s u tell sync = let (m, repaired, settled) = sync.told tell in

@@ -30,6 +30,7 @@ use Rattle.bk_files.specs.Files.{HalfRepaired, HalfRepairedOf, HalfRolled, IsCon
 use Rattle.bk_files.specs.Rows.{AreFromScratch, AreRows, AreSyncedIfSealed, StandsAmong}
 use Rattle.bk_store.specs.declared.appending.Place.{Place}
 use Rattle.bk_store.specs.Appends.{Extends, IsAppended, IsNotAppended, IsRolledFor, MayFollow, RowsGrow, RowsStay}
+use Rattle.bk_store.specs.Events.{IsLeft}
 use Rattle.bk_store.specs.Shown.{active_file, known_bytes}
 use Rattle.bk_store.specs.Standing.{Content, FilesStand}
 use Rattle.bk_store.proofs.KeptVersions.{extends_same}
@@ -221,12 +222,13 @@ left_few tried more left a b (inl is) = omega (arith, ap length is, a)
 left_few tried more left a b (inr (inl is)) = omega (arith, ap length is)
 left_few tried more left a b (inr (inr is)) = omega (arith, ap length is, b)
 
--- nothing was written
-pub stage_ends : (old now : Seen) (c : Content) (more left : List Write) → FilesStand old c → length more ≤ 1
-    → Stage (begun_of old c more) old now left → (is_torn now ≡ false → left ≡ []) → IsNotAppended old now c more
-stage_ends old now c more left was one h whole = record {
+-- nothing was written, and just this is tried
+stage_leaves : (old now : Seen) (c : Content) (more tries left : List Write) → FilesStand old c → length more ≤ 1
+    → Stage (begun_of old c more) old now left → (is_torn now ≡ false → left ≡ []) → IsLeft c.tried tries left
+    → IsNotAppended old now c more tries
+stage_leaves old now c more tries left was one h whole is_left = record {
   left = left;
-  is_left = h.so.is_left;
+  is_left = is_left;
   disk = record {
     consistent = h.consistent;
     totals = h.totals;
@@ -242,6 +244,17 @@ stage_ends old now c more left was one h whole = record {
   rows = h.rows;
   crash = h.so.each;
 }
+
+-- what is tried may be what the event tried
+pub stage_ends : (old now : Seen) (c : Content) (more left : List Write) → FilesStand old c → length more ≤ 1
+    → Stage (begun_of old c more) old now left → (is_torn now ≡ false → left ≡ []) → IsNotAppended old now c more more
+stage_ends old now c more left was one h whole = stage_leaves old now c more more left was one h whole h.so.is_left
+
+-- nothing is tried any more, whatever the event may leave tried
+pub stage_clean : (old now : Seen) (c : Content) (more tries : List Write) → FilesStand old c → length more ≤ 1
+    → Stage (begun_of old c more) old now [] → IsNotAppended old now c more tries
+stage_clean old now c more tries was one h =
+    stage_leaves old now c more tries [] was one h (λ not_torn. refl) (inr (inl refl))
 
 -- a text that needs no new file goes to an active one
 pub not_due : (size limit : ℕ) (o : Option Active) → due_of size limit o ≡ false → (a : Active) × (o ≡ Some a)
@@ -270,7 +283,7 @@ torn_true a (Some x) is = refl
 pub stage_part : (old s u : Seen) (c : Content) (w : Write) (text : List ℕ) (n : ℕ) → FilesStand old c
     → Stage (begun_of old c (w ∷ [])) old s [] → MayFollow w text c → is_due (length text) s ≡ false
     → u.catalog ≡ torn s.catalog → Appended (active_name s) n text s.told u.told
-    → IsConsistent u → IsFromScratch u → IsSyncedIfSealed u → IsNotAppended old u c (w ∷ [])
+    → IsConsistent u → IsFromScratch u → IsSyncedIfSealed u → IsNotAppended old u c (w ∷ []) (w ∷ [])
 stage_part old s u c w text n was h may due catalog b consistent totals synced =
     let (a, is) = not_due (length text) s.catalog.max_file s.catalog.active due in
     let e = begun_of old c (w ∷ []) in

@@ -72,7 +72,7 @@ files_synced tells old new c tell h sync consistent totals synced =
 -- a sync that was refused
 pub files_not_synced : (tells : Bool) (old new : Seen) (c : Content) → IsTrue tells → FilesStand old c
     → HalfRepaired tells old new ⊎ Repaired tells old new → IsConsistent new → IsFromScratch new → IsSyncedIfSealed new
-    → IsNotAppended old new c []
+    → IsNotAppended old new c [] []
 files_not_synced tells old new c tell h (inl half) consistent totals synced =
     stage_ends old new c [] c.tried h (omega arith)
     (stage_half_repaired tells (begun_of old c []) old old new c.tried tell (stage_begins old c [] h) half consistent totals synced)
@@ -115,7 +115,7 @@ sync_refused tells v u who tell half facts rest o h tried s stood step entry =
       n.is_left,
       one_step tells v u o h tried n.left s (quiet_by who) stood step entry tt (ap (λ (x : Shown). x.settings) rest)
           (ap (λ (x : Shown). x.seq) rest ∙ stood.seq)
-          (content_kept v.settings.ttl v.files u.files v.keys u.keys c [] stood.content n
+          (content_kept v.settings.ttl v.files u.files v.keys u.keys c [] [] stood.content n
           (ap (λ (k : KeydirShown). k.slots) keys) (ap (λ (k : KeydirShown). k.entries) keys)),
     )
 

@@ -19,7 +19,7 @@ use Rattle.bk_laws.proofs.RecordBytes.{length-record_of}
 use Rattle.bk_store.specs.declared.appending.Place.{Place}
 use Rattle.bk_store.specs.declared.errors.PutError.{PutError}
 use Rattle.bk_store.specs.declared.errors.PutError.TheVariants.{FullSeq, FullFiles, Disk, Memory}
-use Rattle.bk_store.specs.Appends.{AppendsAt, AppendsNot, CountsAlone, CrashMeetsPut, HasReserved, MayFollow, RowsHaveRoom, WhyNoAppend, WhyNoWrite, WritesDown, WritesNot}
+use Rattle.bk_store.specs.Appends.{AppendsAt, AppendsNot, CountsAlone, CrashMeetsPut, HasReserved, MayFollow, RowsHaveRoom, WhyNoAppend, WhyNoWrite, WritesDown, WritesNot, tried_by}
 use Rattle.bk_store.specs.Rows.{RowsStand}
 use Rattle.bk_store.specs.Standing.{Content, ContentStands}
 use Rattle.bk_store.proofs.Contents.{content_kept, content_put, content_same}
@@ -96,7 +96,7 @@ module _ (tells : Bool) (w : Write) (text : List ℕ) (files : Seen) (keys ready
     entries = entries;
     nothing = λ tell ttl c stood newer.
         let n = h.nothing tell c w stood.disk (may c newer) in
-        (n.left, n.is_left, content_kept ttl files new keys ready c (w ∷ []) stood n slots entries);
+        (n.left, n.is_left, content_kept ttl files new keys ready c (w ∷ []) (tried_by e w) stood n slots entries);
   }
 
   pub crash_not : (new : Seen) (e : PutError) → IsTrue tells → AppendsNot tells text files new e → CrashMeetsPut w files new

@@ -83,10 +83,11 @@ pub record IsAppended (old new : Seen) (c : Content) (w : Write) (p : Place) : T
   pub rows : RowsGrow p.file.0 (size_of w) old.catalog.rows new.catalog.rows
   pub crash : CrashMeetsFrom old new c (w ∷ [])
 
--- it was refused: of what the files hold, what is tried alone may be another
-pub record IsNotAppended (old new : Seen) (c : Content) (more : List Write) : Type 0 where
+-- It was refused: of what the files hold, what is tried alone may be another. What the event tries, a crash
+-- within it may meet; what is left of it may be less.
+pub record IsNotAppended (old new : Seen) (c : Content) (more tries : List Write) : Type 0 where
   pub left : List Write
-  pub is_left : IsLeft c.tried more left
+  pub is_left : IsLeft c.tried tries left
   pub disk : FilesStand new (with_tried left c)
   pub known : Extends (known_bytes old) (known_bytes new)
   pub rows : RowsStay old.catalog.rows new.catalog.rows
@@ -101,9 +102,14 @@ pub record MayFollow (w : Write) (text : List ℕ) (c : Content) : Type 0 where
 abbrev pub Appends : List ℕ → Place → Seen → Seen → Type 0
 Appends text p old new = (c : Content) (w : Write) → FilesStand old c → MayFollow w text c → IsAppended old new c w p
 
-abbrev pub DoesNotAppend : List ℕ → Seen → Seen → Type 0
-DoesNotAppend text old new = (c : Content) (w : Write) → FilesStand old c → MayFollow w text c
-    → IsNotAppended old new c (w ∷ [])
+-- what a write that was refused may leave tried: its record, where the disk failed
+abbrev pub tried_by : PutError → Write → List Write
+tried_by Disk w = w ∷ []
+tried_by e w = []
+
+abbrev pub DoesNotAppend : PutError → List ℕ → Seen → Seen → Type 0
+DoesNotAppend e text old new = (c : Content) (w : Write) → FilesStand old c → MayFollow w text c
+    → IsNotAppended old new c (w ∷ []) (tried_by e w)
 
 -- what each call on the files keeps
 pub record KeepsFacts (old new : Seen) : Type 0 where
@@ -118,6 +124,7 @@ pub record FilesGo (tells : Bool) (old new : Seen) : Type 0 where
   pub later : old.faults ≤ new.faults
   pub views : new.fallible_views ≡ old.fallible_views
   pub outs : new.fallible_outs ≡ old.fallible_outs
+  pub limit : new.catalog.max_file ≡ old.catalog.max_file
 
 -- a new file was made, or nothing was done
 abbrev pub IsRolledFor : Bool → Bool → Seen → Seen → Type 0
@@ -160,7 +167,7 @@ WhyNoAppend text old new Memory = is_due (length text) old ≡ false → length 
 -- it was refused
 pub record AppendsNot (tells : Bool) (text : List ℕ) (old new : Seen) (e : PutError) : Type 0 where
   pub why : WhyNoAppend text old new e
-  pub nothing : IsTrue tells → DoesNotAppend text old new
+  pub nothing : IsTrue tells → DoesNotAppend e text old new
 
 -- ---- the counts
 
@@ -214,10 +221,10 @@ PutsWrite w files keys new_files new_keys = (ttl : ℕ) (c : Content) → Conten
     → last_seq c.log < w.seq.0 → ContentStands ttl new_files new_keys (with_write w c)
 
 -- it has what it had, but for what is tried
-abbrev pub PutsNothing : Write → Seen → KeydirShown → Seen → KeydirShown → Type 0
-PutsNothing w files keys new_files new_keys = (ttl : ℕ) (c : Content) → ContentStands ttl files keys c
+abbrev pub PutsNothing : PutError → Write → Seen → KeydirShown → Seen → KeydirShown → Type 0
+PutsNothing e w files keys new_files new_keys = (ttl : ℕ) (c : Content) → ContentStands ttl files keys c
     → last_seq c.log < w.seq.0
-    → (left : List Write) × IsLeft c.tried (w ∷ []) left × ContentStands ttl new_files new_keys (with_tried left c)
+    → (left : List Write) × IsLeft c.tried (tried_by e w) left × ContentStands ttl new_files new_keys (with_tried left c)
 
 abbrev pub CrashMeetsPut : Write → Seen → Seen → Type 0
 CrashMeetsPut w old new = (c : Content) → FilesStand old c → last_seq c.log < w.seq.0 → CrashMeetsFrom old new c (w ∷ [])
@@ -257,4 +264,4 @@ pub record WritesNot (tells : Bool) (w : Write) (files : Seen) (keys : KeydirSho
     (e : PutError) : Type 0 where
   pub why : WhyNoWrite w files new e
   pub entries : now.entries ≡ keys.entries
-  pub nothing : IsTrue tells → PutsNothing w files keys new now
+  pub nothing : IsTrue tells → PutsNothing e w files keys new now

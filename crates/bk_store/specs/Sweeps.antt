@@ -1,5 +1,8 @@
 -- What a sweep and a look at the store's numbers answer.
 use Rattle.std.specs.Prelude.{◌≡◌, ℕ, ◌+◌, ◌-◌, ◌<◌, ◌≤◌, Bool, false, List, length, min, sum_by, cond, Option, None, Some, IsTrue}
+use Rattle.std.specs.List.{IsDistinct}
+use Rattle.std.specs.Map.{keys_of}
+use Rattle.std.specs.Str.{bytes_eq}
 use Rattle.bk_base.specs.declared.rows.Row.{Row}
 use Rattle.bk_base.specs.declared.writes.Version.{Version}
 use Rattle.bk_files.specs.Files.{Seen, rows_of}
@@ -65,7 +68,9 @@ pub record IsSwept (from n : ℕ) (s : Swept) (old new : KeydirShown) : Type 0 w
 abbrev pub has_put : Entry → ℕ
 has_put e = cond (is_put (newest_of e.1)) 1 0
 
+-- no key is counted twice
 pub record IsStat (s : Stat) (v : Shown) : Type 0 where
+  pub once : IsDistinct bytes_eq (keys_of v.keys.entries)
   pub keys : s.keys ≡ sum_by has_put v.keys.entries
   pub files : s.files ≡ length (rows_of v.files)
   pub total : s.total ≡ sum_by (λ (r : Row). r.total) (rows_of v.files)

@@ -24,6 +24,7 @@ pub record KeepsRest (v u : Shown) : Type 0 where
   pub later : v.files.faults ≤ u.files.faults
   pub views : u.files.fallible_views ≡ v.files.fallible_views
   pub outs : u.files.fallible_outs ≡ v.files.fallible_outs
+  pub limit : u.files.catalog.max_file ≡ v.files.catalog.max_file
 
 -- The write was made: a seq and, where it needs a new file, a file number were left for it.
 pub record IsWritten (w : Write) (v u : Shown) (s : Stored) : Type 0 where

@@ -1,9 +1,10 @@
 //! The events of folds.
-ghost use Rattle.std.specs.Prelude.{◌≡◌, ◌≤◌, ◌↔◌, ℕ, List, [], None, Some, IsTrue, IsErr, IfOk, IfErr, OnOk, OnErr, IsErrOf};
+ghost use Rattle.std.specs.Prelude.{◌≡◌, ◌<◌, ◌≤◌, ◌↔◌, ℕ, List, [], None, Some, true, is_some, IsTrue, IsErr, IfOk, IfErr, OnOk, OnErr, IsErrOf};
 ghost use Rattle.bk_base.specs.declared.calls.Answer.TheVariants.{Done, Fold as fold_answer};
 ghost use Rattle.bk_base.specs.declared.calls.Call.TheVariants.{FoldClose, FoldNext, FoldOpen};
 ghost use Rattle.bk_base.specs.declared.histories.Opening.{Opening};
 ghost use Rattle.bk_base.specs.declared.histories.Step.{Step};
+ghost use Rattle.bk_base.specs.declared.limits.TheConstants.{MOST_FOLDS};
 ghost use Rattle.bk_base.specs.declared.writes.Write.{Write};
 ghost use Rattle.bk_disk.specs.Causes.{Rose};
 ghost use Rattle.bk_keydir.specs.Slots.{first_free, slot_at, who_of};
@@ -42,6 +43,8 @@ impl<D: Disk> Store<D> {
     pub fn fold_open(&mut self, who: u64, now: Moment) -> Result<Fold, FullFolds>
         ensures opened { IfOk result (IsOpened who now self.old self.new) }
         ensures full { IsErr result ↔ (first_free self.old.keys.slots ≡ None) }
+        ensures all { OnErr result ((n : ℕ) → n < MOST_FOLDS
+            → is_some (slot_at self.old.keys.slots n) ≡ true) }
         ensures untouched { OnErr result (self.new ≡ self.old) }
         ensures ok { IsTrue D.tells → IfOk result (λ fold. Keeps D.tells
             (entry_by who (FoldOpen now) (fold_answer fold.epoch fold.slot)) self.old self.new) }

@@ -8,7 +8,7 @@ ghost use Rattle.bk_disk.specs.Causes.{IsCaused};
 ghost use Rattle.bk_files.specs.Files.{has_active, is_due};
 ghost use Rattle.bk_keydir.specs.Keydir.{keeps_newest, newest_of, versions_of};
 ghost use Rattle.bk_laws.specs.Record.{size_of};
-ghost use Rattle.bk_store.specs.Appends.{CrashMeetsPut, PutsNothing, PutsWrite};
+ghost use Rattle.bk_store.specs.Appends.{CrashMeetsPut, PutsNothing, PutsWrite, tried_by};
 ghost use Rattle.bk_store.specs.Events.{CrashMeets, GoesOn, Keeps, KeepsPast, Refuses, entry_by, next_write, quiet_by};
 ghost use Rattle.bk_store.specs.Loans.{is_put};
 ghost use Rattle.bk_store.specs.Writes.{Buries, IsBuried, IsReserved, IsWriteError, IsWritten, KeepsRest, bury_reply, is_expired};
@@ -32,8 +32,9 @@ pub struct Stored {
 impl<D: Disk> Store<D> {
     /// Puts a value. `FullSeq` comes exactly where the last seq is given out, and `FullFiles` only where
     /// a new file is due and the last file number is given out. `Memory` can't come where all that the
-    /// put needs was reserved. After `Disk` a first part of the record
-    /// may stand in the active file; the next write or sync repairs it. A new file that was made stays.
+    /// put needs was reserved. After `Disk` a first part of the record, or all of it, may stand in the
+    /// active file; the next write or sync repairs it. No other error leaves any of it. A new file that
+    /// was made stays.
     pub fn put(&mut self, prepared: Prepared, now: Moment) -> Result<Stored, PutError>
         ensures written { IfOk result (IsWritten
             (next_write self.old now prepared.key (Put prepared.value)) self.old self.new) }
@@ -46,8 +47,8 @@ impl<D: Disk> Store<D> {
         ensures ok { IsTrue D.tells → IfOk result (λ s. (who : ℕ) → GoesOn D.tells
             (entry_by who (put_call prepared.key prepared.value now) (Numbered s.seq))
             self.old self.new) }
-        ensures refused { IsTrue D.tells → OnErr result ((who : ℕ) → Refuses D.tells who
-            (next_write self.old now prepared.key (Put prepared.value) ∷ []) self.old self.new) }
+        ensures refused { IsTrue D.tells → IfErr result (λ e. (who : ℕ) → Refuses D.tells who
+            (tried_by e (next_write self.old now prepared.key (Put prepared.value))) self.old self.new) }
         ensures crash { IsTrue D.tells → CrashMeets
             (next_write self.old now prepared.key (Put prepared.value) ∷ []) self.old self.new }
     {
@@ -68,8 +69,8 @@ impl<D: Disk> Store<D> {
         ensures past { IsTrue D.tells → KeepsPast self.old.files.told self.new.files.told }
         ensures ok { IsTrue D.tells → IfOk result (λ found. (who : ℕ) → Buries D.tells found
             (entry_by who (Delete key.now now) (bury_reply found)) self.old self.new) }
-        ensures refused { IsTrue D.tells → OnErr result ((who : ℕ) → Refuses D.tells who
-            (next_write self.old now key.now Gone ∷ []) self.old self.new) }
+        ensures refused { IsTrue D.tells → IfErr result (λ e. (who : ℕ) → Refuses D.tells who
+            (tried_by e (next_write self.old now key.now Gone)) self.old self.new) }
         ensures crash { IsTrue D.tells → CrashMeets
             (next_write self.old now key.now Gone ∷ []) self.old self.new }
     {
@@ -92,8 +93,8 @@ impl<D: Disk> Store<D> {
         ensures past { IsTrue D.tells → KeepsPast self.old.files.told self.new.files.told }
         ensures ok { IsTrue D.tells → IfOk result (λ found. (who : ℕ) → Buries D.tells found
             (entry_by who (Reap key.now now) (bury_reply found)) self.old self.new) }
-        ensures refused { IsTrue D.tells → OnErr result ((who : ℕ) → Refuses D.tells who
-            (next_write self.old now key.now Gone ∷ []) self.old self.new) }
+        ensures refused { IsTrue D.tells → IfErr result (λ e. (who : ℕ) → Refuses D.tells who
+            (tried_by e (next_write self.old now key.now Gone)) self.old self.new) }
         ensures crash { IsTrue D.tells → CrashMeets
             (next_write self.old now key.now Gone ∷ []) self.old self.new }
     {
@@ -114,7 +115,8 @@ impl<D: Disk> Store<D> {
         ensures past { IsTrue D.tells → KeepsPast self.old.files.told self.new.files.told }
         ensures put { IsTrue D.tells → OnOk result (PutsWrite (next_write self.old now key.now Gone)
             self.old.files self.old.keys self.new.files self.new.keys) }
-        ensures refused { IsTrue D.tells → OnErr result (PutsNothing (next_write self.old now key.now Gone)
+        ensures refused { IsTrue D.tells → IfErr result (λ e. PutsNothing e
+            (next_write self.old now key.now Gone)
             self.old.files self.old.keys self.new.files self.new.keys) }
         ensures crash { IsTrue D.tells
             → CrashMeetsPut (next_write self.old now key.now Gone) self.old.files self.new.files }
@@ -137,7 +139,8 @@ impl<D: Disk> Store<D> {
         ensures past { IsTrue D.tells → KeepsPast self.old.files.told self.new.files.told }
         ensures put { IsTrue D.tells → OnOk result (PutsWrite (next_write self.old now key body)
             self.old.files self.old.keys self.new.files self.new.keys) }
-        ensures refused { IsTrue D.tells → OnErr result (PutsNothing (next_write self.old now key body)
+        ensures refused { IsTrue D.tells → IfErr result (λ e. PutsNothing e
+            (next_write self.old now key body)
             self.old.files self.old.keys self.new.files self.new.keys) }
         ensures crash { IsTrue D.tells
             → CrashMeetsPut (next_write self.old now key body) self.old.files self.new.files }

@@ -134,7 +134,8 @@ fn prune<D: Disk>(files: &mut Files<D>, keydir: &mut Keydir, position: u64) -> u
 
 // The number of keys whose newest version is a put.
 fn count_puts(keydir: &Keydir) -> u64
-    ensures { result ≡ sum_by has_put keydir.now.entries }
+    ensures puts { result ≡ sum_by has_put keydir.now.entries }
+    ensures once { IsDistinct bytes_eq (keys_of keydir.now.entries) }
 {
     let mut puts: u64 = 0;
     for position in 0..keydir.len() {

@@ -4,6 +4,7 @@ use Rattle.std.proofs.lemmas.Bool.{true≢false}
 use Rattle.std.proofs.lemmas.Result.{err_from_is_err_and}
 use Rattle.bk_files.specs.Catalog.{Known, due_of, torn_of}
 use Rattle.bk_files.specs.Files.{is_due}
+use Rattle.bk_store.specs.declared.errors.PutError.TheVariants.{Memory}
 use Rattle.bk_store.proofs.AppendExits.{due_still, file_is, is_appended, mended_whole, not_appended, not_ready, not_repaired, not_rolled, rose_since, text_short, why_no_roll}
 use Rattle.bk_store.proofs.Pasts.{goes_passes, goes_repaired, goes_still, goes_then, past_half_repaired}
 use Rattle.bk_store.proofs.appending.append_record.Goals as goal
@@ -37,7 +38,7 @@ returns-in_err-rolled-clause-err g c =
     (record {
       why = why_no_roll g.D.Disk.tells c.args.text.now _ c.args.files.now c.repair.new.self c.make_place.new.files _
           refl c.in_ok-repair.ensures.ok.catalog c.in_ok-repair.ensures.cause.later c.in_err-rolled.ensures.err;
-      nothing = λ tells. not_rolled g.D.Disk.tells c.args.text.now c.args.files.now c.repair.new.self c.make_place.new.files tells
+      nothing = λ tells. not_rolled g.D.Disk.tells _ c.args.text.now c.args.files.now c.repair.new.self c.make_place.new.files tells
           c.in_ok-repair.ensures.ok
           (record {
             consistent = c.in_ok-repair.ensures.consistent tells;
@@ -59,7 +60,7 @@ returns-in_err-ready-clause-err g c =
           let enough : length c.args.text.now ≤ c.make_place.new.files.room =
           omega (arith, room, more, c.in_ok-repair.ensures.rooms) in
           absurd (true≢false (sym (c.in_err-ready.ensures.enough enough)));
-      nothing = λ tells. not_ready g.D.Disk.tells c.in_ok-rolled.rolled c.args.text.now c.args.files.now c.repair.new.self
+      nothing = λ tells. not_ready g.D.Disk.tells c.in_ok-rolled.rolled Memory c.args.text.now c.args.files.now c.repair.new.self
           c.make_place.new.files c.ready.new.self tells c.in_ok-repair.ensures.ok
           (record {
             consistent = c.in_ok-repair.ensures.consistent tells;
@@ -147,6 +148,7 @@ returns-in_err-repair-clause-rest g c = record {
   later = c.in_err-repair.ensures.cause.later;
   views = c.in_err-repair.ensures.views;
   outs = c.in_err-repair.ensures.outs;
+  limit = ap (λ (k : Known). k.max_file) c.in_err-repair.ensures.err.catalog;
 }
 
 pub returns-in_err-rolled-clause-rest : goal.returns-in_err-rolled-clause-rest
@@ -163,7 +165,8 @@ returns-in_err-ready-clause-rest g c =
     c.in_ok-repair.ensures.views c.in_ok-repair.ensures.outs)
     (goes_then _ _ c.make_place.new.files _ c.in_ok-rolled.ensures.rest
     (goes_still _ _ _ c.in_err-ready.ensures.consistent c.in_err-ready.ensures.told
-    (omega (arith, c.in_err-ready.ensures.faults)) c.in_err-ready.ensures.views c.in_err-ready.ensures.outs))
+    (omega (arith, c.in_err-ready.ensures.faults)) c.in_err-ready.ensures.views c.in_err-ready.ensures.outs
+    c.in_err-ready.ensures.catalog))
 
 pub returns-in_err-at-clause-rest : goal.returns-in_err-at-clause-rest
 returns-in_err-at-clause-rest g c =
@@ -173,9 +176,11 @@ returns-in_err-at-clause-rest g c =
     (goes_then _ _ c.make_place.new.files _ c.in_ok-rolled.ensures.rest
     (goes_then _ _ c.ready.new.self _
     (goes_still _ _ _ c.in_ok-ready.ensures.consistent c.in_ok-ready.ensures.told
-    (omega (arith, c.in_ok-ready.ensures.faults)) c.in_ok-ready.ensures.views c.in_ok-ready.ensures.outs)
+    (omega (arith, c.in_ok-ready.ensures.faults)) c.in_ok-ready.ensures.views c.in_ok-ready.ensures.outs
+    c.in_ok-ready.ensures.catalog)
     (goes_passes _ _ _ c.in_err-at.ensures.consistent (λ tells. (c.in_err-at.ensures.part tells).1.passes)
-    c.in_err-at.ensures.cause.later c.in_err-at.ensures.views c.in_err-at.ensures.outs)))
+    c.in_err-at.ensures.cause.later c.in_err-at.ensures.views c.in_err-at.ensures.outs
+    (ap (λ (k : Known). k.max_file) c.in_err-at.ensures.err))))
 
 pub returns-clause-rest : goal.returns-clause-rest
 returns-clause-rest g c =
@@ -185,6 +190,7 @@ returns-clause-rest g c =
     (goes_then _ _ c.make_place.new.files _ c.in_ok-rolled.ensures.rest
     (goes_then _ _ c.ready.new.self _
     (goes_still _ _ _ c.in_ok-ready.ensures.consistent c.in_ok-ready.ensures.told
-    (omega (arith, c.in_ok-ready.ensures.faults)) c.in_ok-ready.ensures.views c.in_ok-ready.ensures.outs)
+    (omega (arith, c.in_ok-ready.ensures.faults)) c.in_ok-ready.ensures.views c.in_ok-ready.ensures.outs
+    c.in_ok-ready.ensures.catalog)
     (goes_passes _ _ _ c.in_ok-at.ensures.consistent (λ tells. (c.in_ok-at.ensures.appended tells).passes)
-    c.in_ok-at.ensures.cause.later c.in_ok-at.ensures.views c.in_ok-at.ensures.outs)))
+    c.in_ok-at.ensures.cause.later c.in_ok-at.ensures.views c.in_ok-at.ensures.outs c.in_ok-at.ensures.ok.max_file)))

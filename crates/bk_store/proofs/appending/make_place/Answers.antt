@@ -1,3 +1,5 @@
+use Rattle.std.proofs.Common.{ap}
+use Rattle.bk_files.specs.Catalog.{Known}
 use Rattle.bk_store.proofs.Pasts.{past_half_rolled, past_rolled}
 use Rattle.bk_store.proofs.appending.make_place.Goals as goal
 
@@ -9,6 +11,7 @@ returns-in_err-roll-clause-rest g c = record {
   later = c.in_err-roll.ensures.later;
   views = c.in_err-roll.ensures.views;
   outs = c.in_err-roll.ensures.outs;
+  limit = ap (λ (k : Known). k.max_file) c.in_err-roll.ensures.err;
 }
 
 pub returns-clause-rest : goal.returns-clause-rest
@@ -19,4 +22,5 @@ returns-clause-rest g c = record {
   later = c.in_ok-roll.ensures.later;
   views = c.in_ok-roll.ensures.views;
   outs = c.in_ok-roll.ensures.outs;
+  limit = c.in_ok-roll.ensures.ok.max_file;
 }

@@ -33,8 +33,8 @@ loop-position-preserved c =
       )
     ]
 
-pub returns : goal.returns
-returns c =
+pub returns-clause-puts : goal.returns-clause-puts
+returns-clause-puts c =
     let whole : length c.args.keydir.now.entries ≤ c.loop-position.position =
     omega (arith, c.loop-position-test.false, c.len-position-end.ensures.len) in
     c.loop-position.invariant.0

@@ -1,7 +1,7 @@
 use Rattle.std.proofs.Common.{◌<◌, ◌+◌, arith, refl, subst}
 use Rattle.bk_base.specs.declared.limits.TheConstants.{LAST_SEQ}
 use Rattle.bk_base.specs.declared.writes.Write.{Write}
-use Rattle.bk_disk.proofs.Results.{on_err}
+use Rattle.std.proofs.lemmas.Result.{err_from_is_err_and}
 use Rattle.bk_store.specs.Appends.{CrashMeetsPut, PutsNothing, PutsWrite}
 use Rattle.bk_store.specs.Events.{KeepsPast, next_write}
 use Rattle.bk_store.specs.Shown.{Shown}
@@ -26,12 +26,11 @@ invariant_of-self g c =
 
 pub returns-in_err-rolled-clause-refused : goal.returns-in_err-rolled-clause-refused
 returns-in_err-rolled-clause-refused g c = λ tells.
-    let nothing : PutsNothing (next_write c.args.self.now c.args.now c.args.key c.args.body) c.args.self.now.files
-    c.args.self.now.keys c.append_write.new.files c.append_write.new.keydir =
-    subst
-    (λ (x : Shown). PutsNothing (next_write x c.args.now c.args.key c.args.body) x.files x.keys c.append_write.new.files
-    c.append_write.new.keydir) c.self.view_is (c.in_err-rolled.ensures.err.nothing tells) in
-    on_err _ nothing
+    let p = err_from_is_err_and c.from_residual.result c.from_residual.ensures.1 in
+    rw (p.1, p.2)
+    (subst
+    (λ (x : Shown). PutsNothing c.in_err-rolled.field-0.0 (next_write x c.args.now c.args.key c.args.body) x.files x.keys c.append_write.new.files
+    c.append_write.new.keydir) c.self.view_is (c.in_err-rolled.ensures.err.nothing tells))
 
 pub returns-in_err-rolled-clause-crash : goal.returns-in_err-rolled-clause-crash
 returns-in_err-rolled-clause-crash g c = λ tells.

@@ -1,6 +1,6 @@
 use Rattle.std.proofs.Common.{List, ℕ, subst}
 use Rattle.bk_base.specs.declared.writes.Body.TheVariants.{Gone}
-use Rattle.bk_disk.proofs.Results.{on_err}
+use Rattle.std.proofs.lemmas.Result.{err_from_is_err_and}
 use Rattle.bk_store.specs.Appends.{CrashMeetsPut, PutsNothing, PutsWrite}
 use Rattle.bk_store.specs.Events.{next_write}
 use Rattle.bk_store.proofs.WriteExits.{crash_nothing}
@@ -16,12 +16,11 @@ returns-in_err-key-clause-crash g c =
 
 pub returns-in_err-stored-clause-refused : goal.returns-in_err-stored-clause-refused
 returns-in_err-stored-clause-refused g c = λ tells.
-    let nothing : PutsNothing (next_write c.args.self.now c.args.now c.args.key.now Gone) c.args.self.now.files
-    c.args.self.now.keys c.append.new.self.files c.append.new.self.keys =
-    subst
-    (λ (k : List ℕ). PutsNothing (next_write c.args.self.now c.args.now k Gone) c.args.self.now.files c.args.self.now.keys
-    c.append.new.self.files c.append.new.self.keys) c.in_ok-key.ensures (c.in_err-stored.ensures.refused tells) in
-    on_err _ nothing
+    let p = err_from_is_err_and c.from_residual-in_err-stored.result c.from_residual-in_err-stored.ensures.1 in
+    rw (p.1, p.2)
+    (subst
+    (λ (k : List ℕ). PutsNothing c.in_err-stored.field-0.0 (next_write c.args.self.now c.args.now k Gone) c.args.self.now.files c.args.self.now.keys
+    c.append.new.self.files c.append.new.self.keys) c.in_ok-key.ensures (c.in_err-stored.ensures.refused tells))
 
 pub returns-in_err-stored-clause-crash : goal.returns-in_err-stored-clause-crash
 returns-in_err-stored-clause-crash g c = λ tells.

@@ -1,15 +1,16 @@
-use Rattle.std.proofs.Common.{◌≡◌, [], ◌<◌, ap, refl, subst, Some, vec_capacity, arith}
+use Rattle.std.proofs.Common.{◌≡◌, [], ◌<◌, ap, refl, subst, Some, true, vec_capacity, arith}
+use Rattle.std.specs.Option.{is_some}
 use Rattle.bk_base.specs.declared.calls.Answer.TheVariants.{Fold as fold_answer}
 use Rattle.bk_base.specs.declared.calls.Call.TheVariants.{FoldOpen}
 use Rattle.bk_disk.proofs.Results.{on_err}
 use Rattle.bk_keydir.specs.declared.slots.Slot.{Slot}
 use Rattle.bk_keydir.specs.Keydir.{Shown as KeydirShown}
-use Rattle.bk_keydir.specs.Slots.{opened}
+use Rattle.bk_keydir.specs.Slots.{opened, slot_at}
 use Rattle.bk_store.specs.Events.{CrashMeets, Keeps, entry_by, quiet_by}
 use Rattle.bk_store.specs.FoldEvents.{IsOpened}
 use Rattle.bk_store.specs.Shown.{Shown}
 use Rattle.bk_store.specs.declared.folds.Fold.{Fold}
-use Rattle.bk_store.proofs.FoldOpens.{first_is_free}
+use Rattle.bk_store.proofs.FoldOpens.{first_is_free, none_is_free}
 use Rattle.bk_store.proofs.FoldSteps.{open_keeps, quiet_same, steady_slots}
 use Rattle.bk_store.proofs.Stepping.{crash_still}
 use Rattle.bk_store.proofs.store.Store.fold_open.Goals as goal
@@ -41,6 +42,14 @@ returns-in_err-slot-clause-crash g c =
     } in
     let u : Shown = record v { keys = c.open_fold.new.self } in
     subst (λ (x : Shown). CrashMeets [] x u) c.self.view_is (crash_still v u [] refl refl)
+
+pub returns-in_err-slot-clause-all : goal.returns-in_err-slot-clause-all
+returns-in_err-slot-clause-all g c =
+    on_err c.from_residual.result
+    (λ n low.
+    subst (λ (x : Shown). is_some (slot_at x.keys.slots n) ≡ true) c.self.view_is
+    (none_is_free c.self.inside.keydir.slots n (c.in_err-slot.ensures.full.0 refl)
+    (omega (arith, low, c.self.invariant.slots))))
 
 pub invariant_of-self-2 : goal.invariant_of-self-2
 invariant_of-self-2 g c =
