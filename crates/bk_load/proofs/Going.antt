@@ -1,5 +1,5 @@
 -- How a disk goes on over the calls of recovery.
-use Rattle.std.proofs.Common.{◌≡◌, ◌⊎◌, ℕ, ◌<◌, Bool, true, false, not, cond, List, [], ◌∷◌, ◌++◌, length, get_or, Option, Some, None, refl, sym, ap, subst, ◌∙◌, inl, inr, arith}
+use Rattle.std.proofs.Common.{◌≡◌, ◌⊎◌, ℕ, ◌<◌, Bool, true, false, not, cond, List, [], ◌∷◌, ◌++◌, length, get_or, map, Option, Some, None, refl, sym, ap, subst, ◌∙◌, inl, inr, arith}
 use Rattle.std.specs.Option.{is_some, option_map}
 use Rattle.std.specs.Prelude.{IsSomeAnd, sum_by}
 use Rattle.std.proofs.lemmas.List.Sums.{sum_by-append}
@@ -18,7 +18,7 @@ use Rattle.bk_disk.proofs.Files.{there_in_both}
 use Rattle.bk_disk.proofs.Tables.{at-changed, at-changed_other, at-fewer, at-renamed, at-renamed_from, at-renamed_other, at-without, at-without_other, renamed-absent}
 use Rattle.bk_image.specs.Readings.{Reading, main, main_temp}
 use Rattle.bk_load.specs.Tidying.{Goes, NeedsScan, NoneLent, Tidied}
-use Rattle.bk_load.specs.Steps.{HasTakenName, IsSyncedFile, LacksOnly, MayGo, MayTakeName, SyncsToo}
+use Rattle.bk_load.specs.Steps.{AsksOnly, HasTakenName, IsSyncedFile, LacksOnly, MayGo, MayTakeName, SyncsToo}
 use Rattle.bk_load.proofs.Tidied.{apart_kinds, needs_before, takes_tidied, tidied_refl, tidied_trans}
 
 -- what a crash may leave came from this reading
@@ -325,3 +325,26 @@ viewed_goes made n from len t within needed = record {
 
 pub goes_same : (t u : Told) → u ≡ t → Goes t u
 goes_same t u e = subst (λ (x : Told). Goes t x) (sym e) (goes_refl t)
+
+-- A view of a file that is no data file was made, or none
+
+pub asks_goes : (n : Name) (len : ℕ) (t u : Told) → ((k : ℕ) → same (main k) n ≡ false) → AsksOnly n len t u → Goes t u
+asks_goes n len t u apart asks = record {
+  later = omega (arith, ap length asks.past);
+  past = λ k lt. ap (λ past. get_or past k u.fronts) asks.past ∙ ap (λ f. get_or t.past k f) asks.fronts;
+  tidied = tidied;
+  synced = synced;
+  each = λ is k low high left may. each_is_tidied t u (inl (asks.past, asks.fronts)) tidied synced is k low high left may;
+  lent = λ none. subst NoneLent (sym asks.fronts) none;
+  stray_views = asks.stray_views;
+  asked = λ k. inl (elim asks.asked [
+    | inl none ↦ asked_same t u k none
+    | inr one ↦ ap (sum_by (λ (v : Listed). cond (same (main k) v.name) v.len 0)) one ∙ asked_more (main k) n len t.asked (apart k)
+  ]);
+}
+  where
+    tidied : Tidied (at t.image) (at u.image)
+    tidied = subst (λ (i : Image). Tidied (at t.image) (at i)) (sym asks.image) (tidied_refl (at t.image))
+
+    synced : IsSynced t → IsSynced u
+    synced is = asks.fronts ∙ is ∙ ap (map (λ (e : Name × List ℕ). (e.0, front_of e.1))) (sym asks.image)

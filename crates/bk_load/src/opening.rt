@@ -22,6 +22,7 @@ pub fn open<D: Disk>(alloc: Global, disk: D, settings: Settings) -> Result<Store
     ensures came { IfOk result (λ store. Came D.tells
         (record { told = D.told disk; faults = D.faults disk; views = D.fallible_views disk; outs = D.fallible_outs disk })
         (record { told = store.files.told; faults = store.files.faults; views = store.files.fallible_views; outs = store.files.fallible_outs })) }
+    ensures settings { IfOk result (λ store. store.settings ≡ settings) }
     ensures stands { IsTrue D.tells → (log : List Write) → IsSoundDisk (D.told disk) log
         → IfOk result (λ store. StandsFor store (opening_of log store) [] []) }
     ensures refused { IfErr result (λ refused. Course {T = Unit {0}} D.tells
