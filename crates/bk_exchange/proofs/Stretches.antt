@@ -128,12 +128,13 @@ pub ends_between : (c : Context) (tells : Telling) (most : ℕ) (h h2 : List Ste
     (end : SessionEnd) (xs : List Exchange)
     → SoFar c tells.clock h h2 taken made t.moments t.later xs
     → IsLast c (point_of c.opening h2) end None → EndsSo c tells most t end None taken made
-    → Session c tells most h h2 t end
+    → (s : Session c tells most h h2 t end)
+    × (s.transcript ≡ (record { served = xs; last = None }))
 ends_between c tells most h h2 taken made t end xs s last e =
     let all : xs ++ [] ≡ xs = append-nil xs in
     let is_taken : taken ≡ requests_of (xs ++ []) = s.read ∙ ap requests_of (sym all) in
     let is_made : made ≡ replies_of (xs ++ []) = s.wrote ∙ ap replies_of (sym all) in
-    record {
+    let session : Session c tells most h h2 t end = record {
       transcript = record { served = xs; last = None };
       said = record {
         served = s.served;
@@ -149,7 +150,7 @@ ends_between c tells most h h2 taken made t end xs s last e =
           (subst (λ (l : List ℕ). Writes tells most end t true taken l) is_made (e.writes told));
       ticks = λ told. subst (λ (ys : List Exchange). Ticks (moments_of ys) t.moments t.later)
           (sym all) (s.ticks told);
-    }
+    } in (session, refl)
 
 -- it ended with QUIT, or within a listing
 pub ends_within : (c : Context) (tells : Telling) (most : ℕ) (h h2 : List Step)
@@ -160,7 +161,8 @@ pub ends_within : (c : Context) (tells : Telling) (most : ℕ) (h h2 : List Step
     → (IsTrue tells.clock → Ticks (asked_in x.now) middle t.later)
     → EndsSo c tells most t end (Some x) (taken ++ request_text x.request)
     (made ++ flat_map reply_text x.replies)
-    → Session c tells most h (h2 ++ x.steps) t end
+    → (s : Session c tells most h (h2 ++ x.steps) t end)
+    × (s.transcript ≡ (record { served = xs; last = Some x }))
 ends_within c tells most h h2 taken made t middle end xs x s last ticks e =
     let is_taken : taken ++ request_text x.request ≡ requests_of (xs ++ x ∷ []) =
     ap (λ (l : List ℕ). l ++ request_text x.request) s.read
@@ -171,7 +173,7 @@ ends_within c tells most h h2 taken made t middle end xs x s last ticks e =
     ∙ ap (λ (l : List ℕ). replies_of xs ++ l) (sym (append-nil (flat_map reply_text x.replies)))
     ∙ sym (replies-append xs (x ∷ [])) in
     let taken_all = taken ++ request_text x.request in
-    record {
+    let session : Session c tells most h (h2 ++ x.steps) t end = record {
       transcript = record { served = xs; last = Some x };
       said = record {
         served = s.served;
@@ -194,4 +196,4 @@ ends_within c tells most h h2 taken made t middle end xs x s last ticks e =
           (s.ticks told)
           (subst (λ (ms : List Moment). Ticks ms middle t.later) (sym (append-nil
           (asked_in x.now))) (ticks told)));
-    }
+    } in (session, refl)

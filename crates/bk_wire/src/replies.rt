@@ -4,7 +4,7 @@ ghost use Rattle.std.specs.Fmt.{decimal};
 ghost use Rattle.bk_laws.specs.Wire.{line, numbered, and_hex, and_number, full_word, reply_text, FitsReply};
 
 use crate::digits::{Digits, hex};
-use bk_base::{FileId, Full, Memory, Reply, Seq};
+use bk_base::{FileId, Full, Key, Memory, Reply, Seq};
 
 /// How many bytes a number and the byte behind it have at the most.
 const NUMBER: usize = 40;
@@ -95,6 +95,30 @@ fn write_pair(out: &mut Vec<u8>, key: &[u8], value: &[u8]) -> Result<(), Memory>
     append(out, key);
     append(out, value);
     append(out, b"\n");
+    Ok(())
+}
+
+/// Writes the header line of the reply VALUE. The value and a line feed are to follow.
+pub fn write_value_header(value_len: usize, out: &mut Vec<u8>) -> Result<(), Memory>
+    ensures ok { OnOk result (out.new.items ≡ out.old.items ++ line (numbered (codes "VALUE ") value_len)) }
+    ensures err { OnErr result (out.new.items ≡ out.old.items) }
+{
+    write_number(out, b"VALUE ", value_len as u128)
+}
+
+/// Writes the header line of the reply PAIR, and the key. The value and a line feed are to follow.
+#[tactic(auto, using(std::proofs::lemmas::List::append_assoc))]
+pub fn write_pair_header(key: &Key, value_len: usize, out: &mut Vec<u8>) -> Result<(), Memory>
+    ensures ok { OnOk result (out.new.items ≡ out.old.items
+        ++ (line (and_number (numbered (codes "PAIR ") (length key.now)) value_len) ++ key.now)) }
+    ensures err { OnErr result (out.new.items ≡ out.old.items) }
+{
+    let key = key.bytes();
+    reserve(out, 5 + NUMBER + NUMBER + key.len())?;
+    append_number(out, b"PAIR ", key.len() as u128);
+    append_number(out, b" ", value_len as u128);
+    append(out, b"\n");
+    append(out, key);
     Ok(())
 }
 
