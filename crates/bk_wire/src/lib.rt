@@ -13,8 +13,8 @@ mod requests;
 mod stops;
 mod words;
 
-pub use laws::{one_answer, one_reading, one_reply, one_request, read_back};
 pub use digits::{Digits, hex};
+pub use laws::{one_answer, one_reading, one_reply, one_request, read_back};
 pub use reader::{Next, Reader};
 pub use replies::{write_pair_header, write_reply, write_value_header};
 pub use reply_reader::{ReadReply, ReplyStop, read_reply};
