@@ -13,6 +13,8 @@ from records import HEADER, LARGEST_VALUE
 HINT_HEADER = struct.Struct(">IHIQQI")  # moment, length of the key, of the value, place, sequence number, checksum
 TOMBSTONE = 4_294_967_295  # in the place of a value's length
 LARGEST_ID = 4_294_967_294
+LAST_SEQ = (1 << 63) - 1
+DAMAGED = 8  # the status of a run that met a damaged record
 KINDS = ("data", "temp", "hint", "htmp", "swap", "stmp")
 
 
@@ -196,6 +198,10 @@ def reply_to_get(it, key):
     return b"VALUE %d\n" % len(value) + value + b"\n"
 
 
-def found_in(it):
-    """What crates/bench_load prints of an opened directory."""
-    return b"%d keys, last seq %d\n" % (len(it.versions), it.last_seq)
+def ended_by_gets(it, keys):
+    """The status and the output of a run that asks for each key of an opened directory."""
+    replies = [reply_to_get(it, key) for key in keys]
+    for number, reply in enumerate(replies):
+        if reply.startswith(b"DAMAGED"):
+            return DAMAGED, b"".join(replies[:number])
+    return 0, b"".join(replies)

@@ -45,15 +45,6 @@ def in_memory():
     return folder if os.access(folder, os.W_OK) else None
 
 
-def recover(folder, **options):
-    """Recovers a folder by the program of crates/bench_load, which the last `rt ci` left there."""
-    built = CRATE.parent / "bench_load" / "out" / "bench_load"
-    if not built.exists():
-        subprocess.run(["rt", "run"], cwd=built.parent.parent, stdin=subprocess.DEVNULL, check=False)
-    options = {"stdin": subprocess.DEVNULL, "capture_output": True, "timeout": SECONDS, **options}
-    return subprocess.run([str(built), str(folder)], check=False, **options)
-
-
 def put(key, value):
     """The text of the request that puts the value under the key."""
     return b"PUT %d %d\n" % (len(key), len(value)) + key + value + b"\n"

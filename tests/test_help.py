@@ -14,7 +14,8 @@ class Help(StoreTest):
         for part in ("bitcaskd pipe DIR", "PUT", "GET", "--help", "--version"):
             self.assertIn(part, text)
         statuses = {tuple(line.split()[:2]) for line in text.splitlines() if line[:1] == " "}
-        for status in [("1", "memory"), ("3", "directory"), ("3", "lock"), ("3", "disk"), ("4", "source"), ("5", "sink"), ("10", "long"), ("11", "notbuilt")]:
+        for status in [("1", "memory"), ("3", "directory"), ("3", "lock"), ("3", "disk"), ("4", "source"), ("5", "sink"), ("7", "settings"), ("8", "damaged"),
+                       ("9", "full"), ("10", "long"), ("11", "notbuilt")]:
             self.assertIn(status, statuses)
         for line in text.splitlines():
             self.assertLessEqual(len(line), 100)

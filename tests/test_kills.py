@@ -1,4 +1,5 @@
-"""SIGKILL at random moments while puts stream in: what was acknowledged is in the files, and nothing else."""
+"""SIGKILL at random moments while puts stream in: what was acknowledged is in the files, nothing else is, and the next
+opening answers so."""
 
 import pathlib
 import random
@@ -9,9 +10,11 @@ import threading
 import time
 import unittest
 
-from support import MOST_IN_FILE, SECONDS, Client, StoreTest, fault_of_folder, numbered, put
+from directories import ended_by_gets, opened
+from support import LOCK_FILE, MOST_IN_FILE, SECONDS, Client, StoreTest, fault_of_folder, get, numbered, put, run
 
 LONGEST_PAUSE = 0.005  # seconds
+SOME_KEYS = 20  # that are asked for after a kill
 
 
 class Kills(StoreTest):
@@ -31,9 +34,16 @@ class Kills(StoreTest):
                 heard = replies.count(b"\n")
                 self.assertTrue(b"".join(map(numbered, range(1, heard + 2))).startswith(replies), "other replies")
                 self.assertIsNone(fault_of_folder(folder, writes, heard, since))
+                self.check_opening(folder, sorted({key for key, _ in writes[:SOME_KEYS]}))
                 acknowledged.add(heard)
                 files.add(len(list(folder.glob("*.bitcask.data"))))
         return acknowledged, files
+
+    def check_opening(self, folder, keys):
+        """The next run answers for these keys what the files hold."""
+        it = opened({path.name: path.read_bytes() for path in folder.iterdir() if path.name != LOCK_FILE})
+        ended = run("pipe", str(folder), given=b"".join(map(get, keys)))
+        self.assertTrue((ended.returncode, ended.stdout) == ended_by_gets(it, keys), "other replies")
 
     def killed(self, folder, given, mark, pause):
         """Runs `pipe`, and kills it so many seconds after it was sent as many bytes as the mark says, while more are

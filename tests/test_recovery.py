@@ -1,7 +1,4 @@
-"""Recovery of directories of all kinds, against the reader in directories.py, which shares no code with the program.
-
-The program of crates/bench_load recovers a directory, and prints how many keys it found and the last number of a write.
-"""
+"""Recovery of directories of all kinds, against the reader in directories.py, which shares no code with the program."""
 
 import os
 import pathlib
@@ -11,11 +8,15 @@ import sys
 import tempfile
 import unittest
 
-from directories import LARGEST_ID, found_in, hint_of, list_of, name_of, named, numbers_of, opened, record_of, scanned
-from support import LOCK_FILE, in_memory, recover
+from directories import (
+    LARGEST_ID, LAST_SEQ, ended_by_gets, hint_of, list_of, name_of, named, numbers_of, opened, record_of, scanned,
+)
+from support import LOCK_FILE, get, in_memory, numbered, parsed, put, run
 
 KEYS = [b"a", b"b", b"key", b"\n", b"\x00\xff", b"a key of more than thirty bytes, on the heap", b"z" * 300]
-RUNS = int(os.environ.get("DIRECTORIES", 3_000))
+GETS = b"".join(map(get, [*KEYS, b"a key that no directory has"]))
+FULL = 9
+RUNS = int(os.environ.get("DIRECTORIES", 10_000))
 
 
 class Maker:
@@ -132,7 +133,7 @@ class Maker:
 
 
 class Directories(unittest.TestCase):
-    """Each directory is recovered, with as many keys as the reader of the formats finds, and the files that it leaves."""
+    """Each directory opens, each key has the value that the reader of the formats finds, and the same files are left."""
 
     maxDiff = 4000
 
@@ -147,15 +148,32 @@ class Directories(unittest.TestCase):
         for name, text in files.items():
             (self.folder / name).write_bytes(text)
 
+    def left(self):
+        return {path.name: path.read_bytes() for path in self.folder.iterdir() if path.name != LOCK_FILE}
+
     def check(self, files):
-        """Recovers the directory, and what is left once more."""
+        """Opens the directory, then what that left, with a put at the end."""
         it = opened(files)
         self.make(files)
-        for _ in range(2):
-            ended = recover(self.folder)
-            self.assertEqual((ended.returncode, ended.stdout), (0, found_in(it)))
-            left = {path.name: path.read_bytes() for path in self.folder.iterdir() if path.name != LOCK_FILE}
-            self.assertEqual(left, it.files)
+        status, output = ended_by_gets(it, [*KEYS, b"a key that no directory has"])
+        ended = run("pipe", str(self.folder), given=GETS)
+        self.assertEqual((ended.returncode, ended.stdout), (status, output))
+        self.assertEqual(self.left(), it.files)
+        self.check_put(it.files)
+
+    def check_put(self, files):
+        """A put has the number behind the last one, and stands in a file of its own."""
+        it = opened(files)
+        ended = run("pipe", str(self.folder), given=put(b"a", b"new"))
+        if it.last_seq == LAST_SEQ or it.last_id == LARGEST_ID:
+            self.assertEqual((ended.returncode, ended.stdout), (FULL, b""))
+            self.assertEqual(self.left(), it.files)
+            return
+        self.assertEqual((ended.returncode, ended.stdout), (0, numbered(it.last_seq + 1)))
+        left = self.left()
+        records, rest = parsed(left.pop(name_of(it.last_id + 1, "data")))
+        self.assertEqual([(one.seq, one.key, one.value) for one in records], [(it.last_seq + 1, b"a", b"new")])
+        self.assertEqual((rest, left), (b"", it.files))
 
     def test_random_directories(self):
         seed = int(os.environ.get("SEED", random.randrange(1 << 32)))

@@ -9,14 +9,15 @@ import shutil
 import tempfile
 import unittest
 
-from directories import found_in, hint_of, list_of, name_of, opened, record_of, reply_to_get
-from support import LOCK_FILE, in_memory, recover
+from directories import ended_by_gets, hint_of, list_of, name_of, opened, record_of
+from support import LOCK_FILE, get, in_memory, run
 from traced import TracedTest
 
 STOPPED = 125
 KINDS = ("rename", "unlink", "fsync")  # the calls that change a directory, or make it durable
 MOST_CALLS = 60  # of one kind in an opening
 KEYS = [b"a", b"b", b"c", b"a key of more than thirty bytes, on the heap"]
+GETS = b"".join(map(get, KEYS))
 
 
 def records(*numbers):
@@ -58,10 +59,9 @@ def linked_lists():
     yield "an odd list", {**files, name_of(5, "temp"): records(1, 2), name_of(5, "swap"): list_of([1], [5])[:-1]}
 
 
-def replies_over(files):
-    """The replies to a get of each key."""
-    it = opened(files)
-    return b"".join(reply_to_get(it, key) for key in KEYS)
+def ended_over(files):
+    """How a run ends that asks for each key: its status and its output."""
+    return ended_by_gets(opened(files), KEYS)
 
 
 class Stops(TracedTest):
@@ -81,7 +81,7 @@ class Stops(TracedTest):
         """Opens a directory of these files under the library. Gives how it ended, and the files that it left."""
         trace = self.trace(faults)
         self.make(trace.folder, files)
-        ended = recover(trace.folder, **trace.options)
+        ended = run("pipe", str(trace.folder), given=GETS, **trace.options)
         left = {path.name: path.read_bytes() for path in trace.folder.iterdir() if path.name != LOCK_FILE}
         shutil.rmtree(trace.folder.parent)
         return ended, left
@@ -98,22 +98,22 @@ class Stops(TracedTest):
             else:
                 self.fail(f"{MOST_CALLS} calls of {kind}")
 
-    def check_whole(self, files, replies):
+    def check_whole(self, files, expected):
         ended, left = self.opening(files, "")
-        self.assertEqual((ended.returncode, ended.stdout), (0, found_in(opened(files))))
+        self.assertEqual((ended.returncode, ended.stdout), expected)
         self.assertEqual(left, opened(files).files)
-        self.assertEqual(replies_over(left), replies)
+        self.assertEqual(ended_over(left), expected)
 
     def check_stops(self, files):
-        replies, stops = replies_over(files), 0
-        self.check_whole(files, replies)
+        expected, stops = ended_over(files), 0
+        self.check_whole(files, expected)
         for first, ended, left in self.each_fault(files, "stop"):
             self.assertEqual(ended.returncode, STOPPED)
             for second, _, again in self.each_fault(left, "stop"):
                 stops += 1
                 with self.subTest(first=first, second=second):
-                    self.assertEqual(replies_over(again), replies)
-                    self.check_whole(again, replies)
+                    self.assertEqual(ended_over(again), expected)
+                    self.check_whole(again, expected)
         return stops
 
     def test_stops_within_a_recovery_and_within_the_next(self):
@@ -123,13 +123,13 @@ class Stops(TracedTest):
 
     def test_calls_that_fail(self):
         for state, files in [*merged_states(), *linked_lists()]:
-            replies = replies_over(files)
+            expected = ended_over(files)
             for faults, ended, left in self.each_fault(files, "EIO"):
                 with self.subTest(state=state, faults=faults):
                     self.assertNotEqual(ended.returncode, 0)
                     self.assertEqual(ended.stdout, b"")
-                    self.assertEqual(replies_over(left), replies)
-                    self.check_whole(left, replies)
+                    self.assertEqual(ended_over(left), expected)
+                    self.check_whole(left, expected)
 
 
 if __name__ == "__main__":

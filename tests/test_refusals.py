@@ -41,18 +41,41 @@ class Words(StoreTest):
 
 
 class Folders(StoreTest):
-    def test_a_folder_that_has_a_file_of_the_store(self):
-        names = [f"{number}.bitcask.{ending}" for number in (1, 7, 4294967294)
-                 for ending in ("data", "temp", "hint", "htmp", "swap", "stmp")]
-        for name in [*names, "bitcask.toml"]:
-            with self.subTest(name=name):
-                folder = self.folder / name
-                folder.mkdir()
-                (folder / name).write_bytes(b"kept")
-                ended = run("pipe", str(folder), given=put(b"a", b"1") + get(b"a"))
-                self.assert_ended(ended, 11, b"", "notbuilt")
-                self.assertEqual((folder / name).read_bytes(), b"kept")
-                self.assertEqual({path.name for path in folder.iterdir()} - {LOCK_FILE}, {name})
+    def test_a_folder_whose_files_hold_no_record(self):
+        # What has no use goes; a data file that holds no record stays, and a later one takes the next put.
+        kept = {"data"}
+        for number in (1, 7, 4294967293):
+            for ending in ("data", "temp", "hint", "htmp", "stmp"):
+                name = f"{number}.bitcask.{ending}"
+                with self.subTest(name=name):
+                    folder = self.folder / name
+                    folder.mkdir()
+                    (folder / name).write_bytes(b"kept")
+                    ended = run("pipe", str(folder), given=put(b"a", b"1") + get(b"a"))
+                    self.assert_ended(ended, 0, numbered(1) + found(b"1"))
+                    left = {name} if ending in kept else set()
+                    self.assertEqual({path.name for path in folder.iterdir()} - {LOCK_FILE},
+                                     left | {f"{number + 1}.bitcask.data"})
+
+    def test_a_folder_whose_last_file_number_is_given_out(self):
+        name = "4294967294.bitcask.data"
+        (self.folder / name).write_bytes(b"")
+        self.assert_ended(self.pipe(get(b"a") + put(b"a", b"1")), 9, b"NONE\n", "full")
+        self.assertEqual(self.files(), {name: b""})
+
+    def test_settings(self):
+        file = self.folder / "bitcask.toml"
+        for text in (b"max_file = 100", b"size = 1", b"kept", b"ttl = 'a'", b"\xff", b" " * 65_537):
+            with self.subTest(text=text[:20]):
+                file.write_bytes(text)
+                self.assert_ended(self.pipe(put(b"a", b"1")), 7, b"", "settings")
+                self.assertEqual(self.files(), {"bitcask.toml": text})
+        file.write_bytes(b"max_file = 4096\n")
+        value = bytes(2_025)
+        self.assert_ended(self.pipe(put(b"a", value) + put(b"b", value) + put(b"c", value)), 0,
+                          numbered(1) + numbered(2) + numbered(3))
+        sizes = {path.name: path.stat().st_size for path in self.folder.iterdir() if path.name.endswith(".data")}
+        self.assertEqual(sizes, {"1.bitcask.data": 4096, "2.bitcask.data": 2048})
 
     def test_a_folder_that_has_other_files(self):
         names = [
@@ -76,8 +99,10 @@ class Folders(StoreTest):
     def test_a_second_run_over_what_the_first_left(self):
         self.assert_ended(self.pipe(put(b"a", b"1")), 0, numbered(1))
         before = self.files()
-        self.assert_ended(self.pipe(get(b"a")), 11, b"", "notbuilt")
+        self.assert_ended(self.pipe(get(b"a")), 0, found(b"1"))
         self.assertEqual(self.files(), before)
+        self.assert_ended(self.pipe(put(b"a", b"2") + get(b"a")), 0, numbered(2) + found(b"2"))
+        self.assertEqual(self.files()[DATA_FILE], before[DATA_FILE])
 
     def test_a_folder_that_is_not_there(self):
         for word in ("absent", "absent/below", "a\nb"):

@@ -17,22 +17,25 @@ use Rattle.bk_disk.specs.Told.{Front, Table, Told, clock}
 use Rattle.bk_disk.proofs.Counts.{counted_at_least, counts_rose}
 use Rattle.bk_image.specs.Prefix.{MeetsEither}
 use Rattle.bk_image.proofs.HoldsCrashes.{holds_at_rest, holds_now, holds_prefix}
+use Rattle.bk_image.specs.SoundDirectory.{IsSoundDisk}
 use Rattle.bk_laws.specs.History.{IsLegalHistory, log_of}
+use Rattle.bk_load.specs.Courses.{Seen}
 use Rattle.bk_laws.specs.Session.{Exchange, Transcript, all_exchanges, steps_of, replies_of}
 use Rattle.bk_store.specs.Events.{CrashMeets, IsStepOf, KeepsPast, Refuses, entry_by, quiet_by}
 use Rattle.bk_store.specs.Events.{GoesOn as GoesOnAlways}
 use Rattle.bk_store.specs.History.{kept_of}
 use Rattle.bk_store.specs.Shown.{Shown}
 use Rattle.bk_store.specs.Standing.{FilesStand, StandsFor}
-use Rattle.bk_store.specs.Starting.{opening_of}
 use Rattle.bk_store.specs.Writes.{KeepsRest}
 use Rattle.bk_store.proofs.Stepping.{content_is}
 use Rattle.bitcaskd.specs.Closing.{ClosesAll, ClosesBy, SyncsNot, SyncsWith}
-use Rattle.bitcaskd.specs.Run.{Telling, Outside, AreAt, CrashesBetween, IsAllSynced, IsBuilt, IsLeftWith, IsLicensed, IsNew, Reads, Writes, Closes, TakesMost, all_steps, Runs, IsServed, tried_by}
+use Rattle.bitcaskd.specs.Opening.{Opens}
+use Rattle.bitcaskd.specs.Run.{Telling, Outside, AreAt, IsAllSynced, IsBuilt, IsFailedSync, IsLeftWith, IsLicensed, IsRun, IsServed, IsSync, Reads, Writes, Closes, TakesMost, all_steps, tried_by}
 use Rattle.bitcaskd.specs.Serving.{Advances, IsLeft, IsOwn, site_of}
-use Rattle.bitcaskd.specs.Talking.{Scene, outside_of, CountedOver, EndsAt, Stopped}
+use Rattle.bitcaskd.specs.Talking.{Scene, outside_of, CountedOver, CrashesOn, EndsAt, Stopped}
+use Rattle.bitcaskd.proofs.OpeningLaws.{opening_crashes, opening_with, opens_at}
 use Rattle.bitcaskd.proofs.ServingLaws.{advances, is_step_by, no_views, step_by}
-use Rattle.bitcaskd.proofs.TalkingLaws.{AllByRecursion-snoc, at_site, counts_on}
+use Rattle.bitcaskd.proofs.TalkingLaws.{AllByRecursion-snoc, at_site, counts_on, past_on}
 
 -- ---- the sync
 
@@ -108,12 +111,12 @@ none_tried cut log left none (inr e) = e ∙ ap (λ (c : List Exchange). tried_b
 
 -- the moments of a sync, behind all requests
 crashes_closing : (start : Told) (old new : Shown) (o : Opening) (turns : List Exchange) (step : Step)
-    → CrashesBetween start old.files.told o turns → Advances [] old new step o (steps_of turns) []
-    → CrashesBetween start new.files.told o turns
-crashes_closing start old new o turns step so a k low high =
+    → CrashesOn start old.files.told o turns → Advances [] old new step o (steps_of turns) []
+    → CrashesOn start new.files.told o turns
+crashes_closing start old new o turns step so a from first k low high =
     elim (cases_lt k (clock old.files.told)) [
       | inl lt ↦
-          let c = so k low lt in
+          let c = so from first k low lt in
           record {
             done = c.done;
             rest = c.rest;
@@ -133,13 +136,14 @@ crashes_closing start old new o turns step so a k low high =
       }
     ]
 
--- where the disk tells, what is known at the end
-record Known (result : Status) (o : Opening) (start : Told) (store : Shown) (talk : Transcript) (closing : List Step)
+-- where the opening is whole, what is known at the end
+pub record Known (result : Status) (o : Opening) (start : Told) (store : Shown) (talk : Transcript) (closing : List Step)
     : Type 0 where
   pub legal : IsLegalHistory o (all_steps talk closing)
   pub why : IsLicensed result o (steps_of talk.served)
   pub left : IsLeftWith store.files.told o (all_steps talk closing) (steps_of talk.served) talk.cut
-  pub crash : CrashesBetween start store.files.told o (all_exchanges talk)
+  pub past : KeepsPast start store.files.told
+  pub crash : CrashesOn start store.files.told o (all_exchanges talk)
   pub closed : AreAt store.files.told closing
 
 no_more : (status : Status) (o : Opening) (start now store : Shown) (talk : Transcript) → store ≡ now
@@ -152,7 +156,8 @@ no_more status o start now store talk same e =
       legal = stands.legal;
       why = e.why;
       left = left_with store o (all_steps talk []) (steps_of talk.served) talk.cut e.tried stands e.by;
-      crash = subst (λ (v : Shown). CrashesBetween start.files.told v.files.told o (all_exchanges talk)) (sym same) e.crash;
+      past = subst (λ (v : Shown). KeepsPast start.files.told v.files.told) (sym same) e.past;
+      crash = subst (λ (v : Shown). CrashesOn start.files.told v.files.told o (all_exchanges talk)) (sym same) e.crash;
       closed = tt;
     }
 
@@ -167,6 +172,7 @@ one_more status result o start now store talk step e none closes why =
       legal = a.stands.legal;
       why = why;
       left = left_with store o (h ++ step ∷ []) (steps_of talk.served) talk.cut [] a.stands (inl refl);
+      past = past_on start.files.told now.files.told store.files.told e.past a.past;
       crash = crashes_closing start.files.told now store o (all_exchanges talk) step e.crash a;
       closed = (a.at, tt);
     }
@@ -181,157 +187,171 @@ all_taken status o start now store talk step seq e none closes is =
 
 -- ---- the run
 
+-- what the objects show as the run begins, before the store was opened
+abbrev pub begun : Seen → Scene → Outside
+begun was start = record (outside_of start) { told = was.told; faults = was.faults; views = was.views; outs = was.outs }
+
 -- the run, from its talk and the steps that close it
-runs : (tells : Telling) (log : List Write) (start now : Scene) (store : Shown) (status result : Status)
-    (closing : List Step) (s : Stopped tells (opening_of log start.site.store) start now status)
-    → IsNew (opening_of log start.site.store) → (IsTrue tells.disk → start.site.store.files.told.image ≡ [])
-    → (IsTrue tells.disk
-    → Known result (opening_of log start.site.store) start.site.store.files.told store s.talk closing)
-    → IsServed result s.talk
-    → AllByRecursion IsOwn (all_steps s.talk closing)
-    → CountedOver start.site.store store (all_steps s.talk closing)
-    → Closes tells.disk store.files.told (log_of (opening_of log start.site.store) (steps_of (all_exchanges s.talk))) result closing
-    → (IsTrue tells.source → Reads result (drop start.taken start.whole) (drop now.taken now.whole) s.talk)
-    → ((out : List ℕ) → Writes status start.sink_faults now.sink_faults out (replies_of s.talk.served)
-    → Writes result start.sink_faults now.sink_faults out (replies_of s.talk.served))
-    → TakesMost result tells.source start.taken now.taken
-    → Runs tells (outside_of start) (outside_of (at_site now (site_of store now.site.moments))) result
-runs tells log start now store status result closing s is_new listed known served own counts closes reads writes most = record {
-  opening = opening_of log start.site.store;
-  talk = s.talk;
-  closing = closing;
-  is_new = is_new;
-  listed = listed;
-  said = s.said;
-  served = served;
-  whole = s.whole;
-  reads = reads;
-  writes = λ t. let (out, is, wrote) = s.writes t in (out, is, writes out wrote);
-  ticks = s.ticks;
-  closes = closes;
-  most = most;
-  own = own;
-  legal = λ t. (known t).legal;
-  why = λ t. (known t).why;
-  left = λ t. (known t).left;
-  crash = λ t. (known t).crash;
-  closed = λ t. (known t).closed;
-  from = (omega arith, omega arith, omega arith);
-  faults = counts.faults;
-  views = counts.views;
-  outs = counts.outs;
-}
+module _ (tells : Telling) (was : Seen) (log : List Write) (whole : Bool) (start now : Scene) (store : Shown)
+    (opens : Opens tells.disk was start.site.store) (known : IsTrue whole → IsTrue tells.disk × IsSoundDisk was.told log) where
+  runs : (status result : Status) (closing : List Step)
+      (s : Stopped tells (opening_with log whole start.site.store) start now status) → IsBuilt result
+      → (IsTrue whole
+      → Known result (opening_with log whole start.site.store) start.site.store.files.told store s.talk closing)
+      → IsServed result s.talk
+      → AllByRecursion IsOwn (all_steps s.talk closing)
+      → CountedOver start.site.store store (all_steps s.talk closing)
+      → Closes whole store.files.told (log_of (opening_with log whole start.site.store) (steps_of (all_exchanges s.talk)))
+      result closing
+      → (IsTrue tells.source → Reads result (drop start.taken start.whole) (drop now.taken now.whole) s.talk)
+      → ((out : List ℕ) → Writes status start.sink_faults now.sink_faults out (replies_of s.talk.served)
+      → Writes result start.sink_faults now.sink_faults out (replies_of s.talk.served))
+      → TakesMost result tells.source start.taken now.taken
+      → IsRun tells (begun was start) (outside_of (at_site now (site_of store now.site.moments))) result log whole
+  runs status result closing s built knows served own counts closes reads writes most = record {
+    opening = opening_with log whole start.site.store;
+    talk = s.talk;
+    closing = closing;
+    is_opened = record {
+      log = refl;
+      folds = refl;
+      whole = refl;
+      settings = start.site.store.settings;
+      says = opens.says;
+      are = refl;
+      faults = opens.came.faults;
+      views = opens.came.views;
+      outs = opens.came.outs;
+    };
+    built = built;
+    said = s.said;
+    served = served;
+    source = s.whole;
+    reads = reads;
+    writes = λ t. let (out, is, wrote) = s.writes t in (out, is, writes out wrote);
+    ticks = s.ticks;
+    closes = closes;
+    most = most;
+    own = own;
+    legal = λ t. (knows t).legal;
+    why = λ t. (knows t).why;
+    left = λ t. (knows t).left;
+    opened = λ t. (
+      clock start.site.store.files.told,
+      opens_at was.told start.site.store.files.told store.files.told log (opens.came.goes (known t).0) (known t).1
+          (knows t).past,
+    );
+    crash = λ t. (knows t).crash (clock was.told)
+        (opening_crashes (opening_with log whole start.site.store) was.told start.site.store.files.told
+        (opens.came.goes (known t).0) (known t).1);
+    closed = λ t. (knows t).closed;
+    faults = counts.faults;
+    views = counts.views;
+    outs = counts.outs;
+  }
 
--- a run that no sync closes
-unsynced : (tells : Telling) (log : List Write) (start now : Scene) (store : Shown) (status : Status)
-    (s : Stopped tells (opening_of log start.site.store) start now status)
-    → IsNew (opening_of log start.site.store) → (IsTrue tells.disk → start.site.store.files.told.image ≡ [])
-    → store ≡ now.site.store
-    → Closes tells.disk store.files.told (log_of (opening_of log start.site.store) (steps_of (all_exchanges s.talk))) status []
-    → Runs tells (outside_of start) (outside_of (at_site now (site_of store now.site.moments))) status
-unsynced tells log start now store status s is_new listed same closes =
-    runs tells log start now store status status [] s is_new listed
-    (λ t. no_more status (opening_of log start.site.store) start.site.store now.site.store store s.talk same (s.ends t))
-    s.served
-    (subst (AllByRecursion IsOwn) (sym (append-nil (steps_of (all_exchanges s.talk)))) s.own)
-    (subst (λ (v : Shown). CountedOver start.site.store v (all_steps s.talk [])) (sym same)
-    (subst (λ (steps : List Step). CountedOver start.site.store now.site.store steps)
-    (sym (append-nil (steps_of (all_exchanges s.talk)))) s.counts))
-    closes s.reads (λ out w. w) s.most
+  -- a run that no sync closes
+  unsynced : (status : Status) (s : Stopped tells (opening_with log whole start.site.store) start now status)
+      → IsBuilt status → store ≡ now.site.store
+      → Closes whole store.files.told (log_of (opening_with log whole start.site.store) (steps_of (all_exchanges s.talk)))
+      status []
+      → IsRun tells (begun was start) (outside_of (at_site now (site_of store now.site.moments))) status log whole
+  unsynced status s built same closes =
+      runs status status [] s built
+      (λ t. no_more status (opening_with log whole start.site.store) start.site.store now.site.store store s.talk same
+      (s.ends t))
+      s.served
+      (subst (AllByRecursion IsOwn) (sym (append-nil (steps_of (all_exchanges s.talk)))) s.own)
+      (subst (λ (v : Shown). CountedOver start.site.store v (all_steps s.talk [])) (sym same)
+      (subst (λ (steps : List Step). CountedOver start.site.store now.site.store steps)
+      (sym (append-nil (steps_of (all_exchanges s.talk)))) s.counts))
+      closes s.reads (λ out w. w) s.most
 
--- a run that a sync closes, with the status that the talk ended with
-module _ (tells : Telling) (log : List Write) (start now : Scene) (store : Shown) (status result : Status)
-    (s : Stopped tells (opening_of log start.site.store) start now status)
-    (is_new : IsNew (opening_of log start.site.store))
-    (listed : IsTrue tells.disk → start.site.store.files.told.image ≡ [])
-    (served : IsServed result s.talk) (none : s.talk.cut ≡ [])
-    (why : IsTrue tells.disk → IsLicensed result (opening_of log start.site.store) (steps_of s.talk.served))
-    (reads : IsTrue tells.source → Reads result (drop start.taken start.whole) (drop now.taken now.whole) s.talk)
-    (writes : (out : List ℕ) → Writes status start.sink_faults now.sink_faults out (replies_of s.talk.served)
-    → Writes result start.sink_faults now.sink_faults out (replies_of s.talk.served))
-    (most : TakesMost result tells.source start.taken now.taken) where
-  by_step : (step : Step) → IsOwn step → IsStepOf tells.disk now.site.store store step
+  -- a run that a sync closes, with the status that the talk ended with
+  by_step : (status result : Status) (s : Stopped tells (opening_with log whole start.site.store) start now status)
+      → IsBuilt result → IsServed result s.talk → s.talk.cut ≡ []
+      → (IsTrue whole → IsLicensed result (opening_with log whole start.site.store) (steps_of s.talk.served))
+      → (IsTrue tells.source → Reads result (drop start.taken start.whole) (drop now.taken now.whole) s.talk)
+      → ((out : List ℕ) → Writes status start.sink_faults now.sink_faults out (replies_of s.talk.served)
+      → Writes result start.sink_faults now.sink_faults out (replies_of s.talk.served))
+      → TakesMost result tells.source start.taken now.taken
+      → (step : Step) → IsOwn step → IsStepOf tells.disk now.site.store store step
       → (IsTrue tells.disk → ClosesAll now.site.store store step)
-      → Closes tells.disk store.files.told (log_of (opening_of log start.site.store) (steps_of (all_exchanges s.talk)))
+      → Closes whole store.files.told (log_of (opening_with log whole start.site.store) (steps_of (all_exchanges s.talk)))
       result (step ∷ [])
-      → Runs tells (outside_of start) (outside_of (at_site now (site_of store now.site.moments))) result
-  by_step step own is goes closes =
-      runs tells log start now store status result (step ∷ []) s is_new listed
-      (λ t. one_more status result (opening_of log start.site.store) start.site.store now.site.store store s.talk step
-      (s.ends t) none (goes t) (why t))
+      → IsRun tells (begun was start) (outside_of (at_site now (site_of store now.site.moments))) result log whole
+  by_step status result s built served none why reads writes most step own is goes closes =
+      runs status result (step ∷ []) s built
+      (λ t. one_more status result (opening_with log whole start.site.store) start.site.store now.site.store store s.talk
+      step (s.ends t) none (goes (known t).0) (why t))
       served
       (AllByRecursion-snoc IsOwn (steps_of (all_exchanges s.talk)) step s.own own)
       (counts_on tells.disk start.site.store now.site.store store (steps_of (all_exchanges s.talk)) step s.counts is)
       closes reads writes most
 
--- From the end of the talk to the end of the run.
-pub closed : (tells : Telling) (log : List Write) (start now : Scene) (store : Shown) (status result : Status)
-    → Stopped tells (opening_of log start.site.store) start now status
-    → IsNew (opening_of log start.site.store) → (IsTrue tells.disk → start.site.store.files.told.image ≡ [])
-    → ClosesBy tells.disk status result now.site.store store
-    → Runs tells (outside_of start) (outside_of (at_site now (site_of store now.site.moments))) result
-closed tells log start now store Done result s is_new listed (inl (is, sync)) =
-    subst (λ (r : Status). Runs tells (outside_of start) (outside_of (at_site now (site_of store now.site.moments))) r) (sym is)
-    (by_step tells log start now store Done Done s is_new listed s.served s.served (λ t. tt) s.reads (λ out w. w) s.most
-    sync.step (ap (λ (e : Entry). e.caller) sync.entry) sync.is_step sync.goes
-    (record {
-      call = ap (λ (e : Entry). e.call) sync.entry;
-      synced = λ t. all_taken Done (opening_of log start.site.store) start.site.store now.site.store store s.talk sync.step
-          sync.seq (s.ends t) s.served (sync.goes t) sync.entry;
-    }))
-closed tells log start now store Done result s is_new listed (inr (is, failed)) =
-    subst (λ (r : Status). Runs tells (outside_of start) (outside_of (at_site now (site_of store now.site.moments))) r) (sym is)
-    (by_step tells log start now store Done Disk s is_new listed tt s.served (λ t. tt)
-    (λ t. ([], s.reads t ∙ sym (append-nil _))) (λ out w. inl w) tt
-    failed.step (ap (λ (e : Entry). e.caller) failed.entry) failed.is_step failed.goes
-    (record { call = ap (λ (e : Entry). e.call) failed.entry; failed = failed.failed }))
-closed tells log start now store NotBuilt result s is_new listed (is, inl sync) =
-    subst (λ (r : Status). Runs tells (outside_of start) (outside_of (at_site now (site_of store now.site.moments))) r) (sym is)
-    (by_step tells log start now store NotBuilt NotBuilt s is_new listed s.served s.served (λ t. tt) s.reads (λ out w. w)
-    tt sync.step (ap (λ (e : Entry). e.caller) sync.entry) sync.is_step sync.goes
-    (inl (record {
-      call = ap (λ (e : Entry). e.call) sync.entry;
-      synced = λ t. all_taken NotBuilt (opening_of log start.site.store) start.site.store now.site.store store s.talk
-          sync.step sync.seq (s.ends t) s.served (sync.goes t) sync.entry;
-    })))
-closed tells log start now store NotBuilt result s is_new listed (is, inr failed) =
-    subst (λ (r : Status). Runs tells (outside_of start) (outside_of (at_site now (site_of store now.site.moments))) r) (sym is)
-    (by_step tells log start now store NotBuilt NotBuilt s is_new listed s.served s.served (λ t. tt) s.reads (λ out w. w)
-    tt failed.step (ap (λ (e : Entry). e.caller) failed.entry) failed.is_step failed.goes
-    (inr (record { call = ap (λ (e : Entry). e.call) failed.entry; failed = failed.failed })))
-closed tells log start now store Memory result s is_new listed (is, same) =
-    subst (λ (r : Status). Runs tells (outside_of start) (outside_of (at_site now (site_of store now.site.moments))) r) (sym is)
-    (unsynced tells log start now store Memory s is_new listed same refl)
-closed tells log start now store Words result s is_new listed (is, same) =
-    subst (λ (r : Status). Runs tells (outside_of start) (outside_of (at_site now (site_of store now.site.moments))) r) (sym is)
-    (unsynced tells log start now store Words s is_new listed same refl)
-closed tells log start now store Disk result s is_new listed (is, same) =
-    subst (λ (r : Status). Runs tells (outside_of start) (outside_of (at_site now (site_of store now.site.moments))) r) (sym is)
-    (unsynced tells log start now store Disk s is_new listed same refl)
-closed tells log start now store Source result s is_new listed (is, same) =
-    subst (λ (r : Status). Runs tells (outside_of start) (outside_of (at_site now (site_of store now.site.moments))) r) (sym is)
-    (unsynced tells log start now store Source s is_new listed same refl)
-closed tells log start now store Sink result s is_new listed (is, same) =
-    subst (λ (r : Status). Runs tells (outside_of start) (outside_of (at_site now (site_of store now.site.moments))) r) (sym is)
-    (unsynced tells log start now store Sink s is_new listed same refl)
-closed tells log start now store Syntax result s is_new listed (is, same) =
-    subst (λ (r : Status). Runs tells (outside_of start) (outside_of (at_site now (site_of store now.site.moments))) r) (sym is)
-    (unsynced tells log start now store Syntax s is_new listed same refl)
-closed tells log start now store Settings result s is_new listed (is, same) =
-    subst (λ (r : Status). Runs tells (outside_of start) (outside_of (at_site now (site_of store now.site.moments))) r) (sym is)
-    (unsynced tells log start now store Settings s is_new listed same refl)
-closed tells log start now store Damaged result s is_new listed (is, same) =
-    subst (λ (r : Status). Runs tells (outside_of start) (outside_of (at_site now (site_of store now.site.moments))) r) (sym is)
-    (unsynced tells log start now store Damaged s is_new listed same refl)
-closed tells log start now store Full result s is_new listed (is, same) =
-    subst (λ (r : Status). Runs tells (outside_of start) (outside_of (at_site now (site_of store now.site.moments))) r) (sym is)
-    (unsynced tells log start now store Full s is_new listed same refl)
-closed tells log start now store Long result s is_new listed (is, same) =
-    subst (λ (r : Status). Runs tells (outside_of start) (outside_of (at_site now (site_of store now.site.moments))) r) (sym is)
-    (unsynced tells log start now store Long s is_new listed same refl)
-closed tells log start now store Door result s is_new listed (is, same) =
-    subst (λ (r : Status). Runs tells (outside_of start) (outside_of (at_site now (site_of store now.site.moments))) r) (sym is)
-    (unsynced tells log start now store Door s is_new listed same refl)
+  -- the sync that answered
+  synced : (status : Status) (s : Stopped tells (opening_with log whole start.site.store) start now status)
+      → s.talk.cut ≡ [] → (sync : SyncsWith tells.disk now.site.store store)
+      → IsSync whole store.files.told (log_of (opening_with log whole start.site.store) (steps_of (all_exchanges s.talk)))
+      sync.step
+  synced status s none sync = record {
+    call = ap (λ (e : Entry). e.call) sync.entry;
+    synced = λ t. all_taken status (opening_with log whole start.site.store) start.site.store now.site.store store s.talk
+        sync.step sync.seq (s.ends t) none (sync.goes (known t).0) sync.entry;
+  }
+
+  sync_failed : (failed : SyncsNot tells.disk now.site.store store) → IsFailedSync failed.step
+  sync_failed failed = record { call = ap (λ (e : Entry). e.call) failed.entry; failed = failed.failed }
+
+  -- From the end of the talk to the end of the run.
+  pub closed : (status result : Status) → Stopped tells (opening_with log whole start.site.store) start now status
+      → IsBuilt status → ClosesBy tells.disk status result now.site.store store
+      → IsRun tells (begun was start) (outside_of (at_site now (site_of store now.site.moments))) result log whole
+  closed Done result s built (inl (is, sync)) =
+      subst (λ (r : Status). IsRun tells (begun was start) (outside_of (at_site now (site_of store now.site.moments))) r log whole)
+      (sym is)
+      (by_step Done Done s tt s.served s.served (λ t. tt) s.reads (λ out w. w) s.most
+      sync.step (ap (λ (e : Entry). e.caller) sync.entry) sync.is_step sync.goes (synced Done s s.served sync))
+  closed Done result s built (inr (is, failed)) =
+      subst (λ (r : Status). IsRun tells (begun was start) (outside_of (at_site now (site_of store now.site.moments))) r log whole)
+      (sym is)
+      (by_step Done Disk s tt tt s.served (λ t. tt) (λ t. ([], s.reads t ∙ sym (append-nil _))) (λ out w. inl w) tt
+      failed.step (ap (λ (e : Entry). e.caller) failed.entry) failed.is_step failed.goes (sync_failed failed))
+  closed NotBuilt result s built (is, inl sync) =
+      subst (λ (r : Status). IsRun tells (begun was start) (outside_of (at_site now (site_of store now.site.moments))) r log whole)
+      (sym is)
+      (by_step NotBuilt NotBuilt s tt s.served s.served (λ t. tt) s.reads (λ out w. w) tt
+      sync.step (ap (λ (e : Entry). e.caller) sync.entry) sync.is_step sync.goes (inl (synced NotBuilt s s.served sync)))
+  closed NotBuilt result s built (is, inr failed) =
+      subst (λ (r : Status). IsRun tells (begun was start) (outside_of (at_site now (site_of store now.site.moments))) r log whole)
+      (sym is)
+      (by_step NotBuilt NotBuilt s tt s.served s.served (λ t. tt) s.reads (λ out w. w) tt
+      failed.step (ap (λ (e : Entry). e.caller) failed.entry) failed.is_step failed.goes (inr (sync_failed failed)))
+  closed Memory result s built (is, same) =
+      subst (λ (r : Status). IsRun tells (begun was start) (outside_of (at_site now (site_of store now.site.moments))) r log whole)
+      (sym is) (unsynced Memory s built same refl)
+  closed Disk result s built (is, same) =
+      subst (λ (r : Status). IsRun tells (begun was start) (outside_of (at_site now (site_of store now.site.moments))) r log whole)
+      (sym is) (unsynced Disk s built same refl)
+  closed Source result s built (is, same) =
+      subst (λ (r : Status). IsRun tells (begun was start) (outside_of (at_site now (site_of store now.site.moments))) r log whole)
+      (sym is) (unsynced Source s built same refl)
+  closed Sink result s built (is, same) =
+      subst (λ (r : Status). IsRun tells (begun was start) (outside_of (at_site now (site_of store now.site.moments))) r log whole)
+      (sym is) (unsynced Sink s built same refl)
+  closed Damaged result s built (is, same) =
+      subst (λ (r : Status). IsRun tells (begun was start) (outside_of (at_site now (site_of store now.site.moments))) r log whole)
+      (sym is) (unsynced Damaged s built same refl)
+  closed Full result s built (is, same) =
+      subst (λ (r : Status). IsRun tells (begun was start) (outside_of (at_site now (site_of store now.site.moments))) r log whole)
+      (sym is) (unsynced Full s built same refl)
+  closed Long result s built (is, same) =
+      subst (λ (r : Status). IsRun tells (begun was start) (outside_of (at_site now (site_of store now.site.moments))) r log whole)
+      (sym is) (unsynced Long s built same refl)
+  closed Words result s built closes = absurd built
+  closed Syntax result s built closes = absurd built
+  closed Settings result s built closes = absurd built
+  closed Door result s built closes = absurd built
 
 -- the status stays, or the disk failed
 pub same_or_disk : (tells : Bool) (status result : Status) (old new : Shown) → ClosesBy tells status result old new
@@ -350,37 +370,6 @@ same_or_disk tells Damaged result old new closes = inl closes.0
 same_or_disk tells Full result old new closes = inl closes.0
 same_or_disk tells Long result old new closes = inl closes.0
 same_or_disk tells Door result old new closes = inl closes.0
-
--- the same run, over a disk whose counts had risen no further before it was listed
-pub from_before : (tells : Telling) (told : Told) (faults views outs : ℕ) (old new : Outside) (status : Status)
-    → (IsTrue tells.disk → old.told ≡ told) → faults ≤ old.faults → views ≤ old.views → outs ≤ old.outs
-    → Runs tells old new status
-    → Runs tells (record old { told = told; faults = faults; views = views; outs = outs }) new status
-from_before tells told faults views outs old new status same later more further r = record {
-  opening = r.opening;
-  talk = r.talk;
-  closing = r.closing;
-  is_new = r.is_new;
-  listed = λ t. ap (λ (d : Told). d.image) (sym (same t)) ∙ r.listed t;
-  said = r.said;
-  served = r.served;
-  whole = r.whole;
-  reads = r.reads;
-  writes = r.writes;
-  ticks = r.ticks;
-  closes = r.closes;
-  most = r.most;
-  legal = r.legal;
-  why = r.why;
-  left = r.left;
-  crash = λ t. subst (λ (d : Told). CrashesBetween d new.told r.opening (all_exchanges r.talk)) (same t) (r.crash t);
-  closed = r.closed;
-  own = r.own;
-  from = (omega (arith, r.from.0, later), omega (arith, r.from.1, more), omega (arith, r.from.2, further));
-  faults = r.faults;
-  views = r.views;
-  outs = r.outs;
-}
 
 Rose-on : (first before now last : ℕ) → first ≤ before → Rose before now → now ≤ last → Rose first last
 Rose-on first before now last early rose late = omega arith

@@ -1,54 +1,197 @@
--- A directory without files is that of the empty log.
-use Rattle.std.proofs.Common.{◌≡◌, ◌∙◌, ℕ, List, [], ◌∷◌, map, Some, None, is_some, refl, sym, ap, subst}
+-- What is known of the moments in which a store was opened.
+use Rattle.std.proofs.Common.{◌≡◌, ◌∙◌, ◌⊎◌, ℕ, ◌≤◌, List, [], Bool, length, map, take, refl, sym, ap, subst, arith, inl, inr, IsTrue, Result, Err}
+use Rattle.std.proofs.lemmas.List.{append-nil, take_all}
+use Rattle.bk_base.specs.declared.histories.Opening.{Opening}
 use Rattle.bk_base.specs.declared.names.Name.{Name}
-use Rattle.bk_base.specs.declared.rows.Row.{Row}
-use Rattle.bk_disk.specs.Crashes.{IsSynced, front_of}
-use Rattle.bk_disk.specs.Told.{Front, Image, IsWell, Table, Told, at, bytes_of, names}
-use Rattle.bk_files.specs.Catalog.{main, row_of}
-use Rattle.bk_files.specs.Rows.{AreFromScratch}
-use Rattle.bk_image.specs.CountedFiles.{HasNoList}
-use Rattle.bk_image.specs.Readings.{In, swap}
-use Rattle.bk_image.proofs.HoldsOpening.{sound_empty}
-use Rattle.bk_keydir.specs.declared.loads.Loaded.{Loaded}
-use Rattle.bk_keydir.specs.Keydir.{Entry, newest_of, versions_of}
-use Rattle.bk_laws.specs.Log.{winner}
-use Rattle.bk_store.specs.Starting.{IsLoadOf}
-use Rattle.bk_store.specs.Versions.{KeyStands}
-use Rattle.bitcaskd.specs.Opening.{IsNothing}
+use Rattle.bk_base.specs.declared.statuses.Status.{Status}
+use Rattle.bk_base.specs.declared.statuses.Status.TheVariants.{Done, Memory, Words, Disk, Source, Sink, Syntax, Settings, Damaged, Full, Long, NotBuilt, Door}
+use Rattle.bk_base.specs.declared.writes.Write.{Write}
+use Rattle.bk_disk.specs.Causes.{Rose}
+use Rattle.bk_disk.specs.Crashes.{MayLeave, front_of}
+use Rattle.bk_disk.specs.Told.{Front, Image, IsOnce, IsWell, Table, Told, at, clock, names}
+use Rattle.bk_image.specs.Prefix.{Prefix}
+use Rattle.bk_image.specs.SoundDirectory.{IsSound, IsSoundDisk}
+use Rattle.bk_laws.specs.Log.{SameMap}
+use Rattle.bk_image.specs.Readings.{main}
+use Rattle.bk_load.specs.Courses.{Came, Course, Seen}
+use Rattle.bk_load.specs.SettingsFile.{Answers, Loads, settings_file}
+use Rattle.bk_load.specs.Steps.{AsksOnly}
+use Rattle.bk_load.specs.Tidying.{Goes}
+use Rattle.bk_load.specs.declared.errors.LoadSettings.{LoadSettings}
+use Rattle.bk_load.specs.declared.errors.LoadSettings.TheVariants.{Bad, Disk as settings_disk, Read as settings_read, Memory as settings_memory}
+use Rattle.bk_load.specs.declared.errors.OpenError.{OpenError}
+use Rattle.bk_load.specs.declared.errors.OpenError.TheVariants.{Disk as open_disk, Read as open_read, Memory as open_memory}
+use Rattle.bk_load.proofs.Courses.{came_trans}
+use Rattle.bk_load.proofs.Going.{asks_goes}
+use Rattle.bk_load.proofs.KeptLogs.{recovery_keeps_log, tidied_sound}
+use Rattle.bk_load.proofs.Tidied.{apart_kinds}
+use Rattle.bk_policy.specs.declared.settings.Settings.{Settings as StoreSettings}
+use Rattle.bk_store.specs.Events.{KeepsPast}
+use Rattle.bk_store.specs.Shown.{Shown}
+use Rattle.bk_store.specs.Standing.{StandsFor}
+use Rattle.bk_store.specs.Starting.{opening_of}
+use Rattle.bitcaskd.specs.Opening.{IsCauseOf, IsRefused, KeepsLog, Opens, SaysSettings, files_seen, of_open, of_settings}
+use Rattle.bitcaskd.specs.Run.{CrashesFrom, IsBuilt, MayEnd, OpensAt}
 
-none_in : {X : Type 0} (xs : List X) (x : X) → xs ≡ [] → In x xs → ⊥
-none_in [] x none h = h
-none_in (y ∷ ys) x none h = absurd (cc none)
+-- the opening that a store began with, and whether it is known in full
+abbrev pub opening_with : List Write → Bool → Shown → Opening
+opening_with log whole v = record (opening_of log v) { whole = whole }
 
-no_front : (fronts : Table Front) → names fronts ≡ [] → fronts ≡ []
-no_front [] none = refl
-no_front (f ∷ fs) none = absurd (cc none)
+pub stands_with : (tells whole : Bool) (was : Seen) (log : List Write) (v : Shown) → Opens tells was v
+    → (IsTrue whole → IsTrue tells × IsSoundDisk was.told log) → IsTrue whole → StandsFor v (opening_with log whole v) [] []
+stands_with tells whole was log v opens known is =
+    subst (λ (b : Bool). StandsFor v (opening_with log b v) [] []) (sym is) (opens.stands (known is).0 log (known is).1)
 
-is_synced : (t : Told) → IsWell t → t.image ≡ [] → IsSynced t
-is_synced t well empty =
-    no_front t.fronts (well.paired ∙ ap (λ (i : Image). names i) empty)
-    ∙ sym (ap (λ (i : Image). map (λ (e : Name × List ℕ). (e.0, front_of e.1)) i) empty)
+-- ---- crashes
 
-nothing_at : (image : Image) (n : Name) → image ≡ [] → at image n ≡ None
-nothing_at image n empty = ap (λ (i : Image). at i n) empty
-
-no_list : (image : Image) → image ≡ [] → HasNoList (at image)
-no_list image empty l has = let wrong : None ≡ Some has.bytes = sym (nothing_at image (swap has.id) empty) ∙ has.there in absurd (cc wrong)
-
-no_row : (rows : List Row) (id : ℕ) (r : Row) → rows ≡ [] → row_of id rows ≡ Some r → ⊥
-no_row rows id r none is = let wrong : None ≡ Some r = sym (ap (row_of id) none) ∙ is in absurd (cc wrong)
-
-pub load_of : (t : Told) (l : Loaded) → IsWell t → IsNothing l → t.image ≡ [] → IsLoadOf t l []
-load_of t l well n empty = record {
-  disk = sound_empty well (is_synced t well empty) (λ id. ap is_some (nothing_at t.image (main id) empty)) (no_list t.image empty);
-  idle = no_list t.image empty;
-  seq = n.seq;
-  keys = record {
-    newest = λ key. subst (λ (es : List Entry). KeyStands (at t.image) (newest_of (versions_of key es)) (winner [] key))
-        (sym n.keys) refl;
-    placed = λ e v is_in _. absurd (none_in l.keydir.entries e n.keys is_in);
+-- a sound image that has the log has all of it
+whole_prefix : (image : Image) (log : List Write) → IsSound image log → Prefix image log (length log) []
+whole_prefix image log sound = record {
+  found = log;
+  sound = sound;
+  part = record {
+    n = length log;
+    low = omega arith;
+    high = omega (arith, ap length (append-nil log));
+    same_map = subst (SameMap log) (sym (ap (take (length log)) (append-nil log) ∙ take_all (length log) log (omega arith))) (λ key. refl);
   };
-  totals = subst (λ (rows : List Row). AreFromScratch rows t) (sym n.rows) tt;
-  counts = λ id r is. absurd (no_row l.rows.items id r n.rows is);
-  covered = λ id first none. ap (λ (i : Image). bytes_of (main id) i) empty;
 }
+
+-- the moments of the opening, in which no request was served
+pub opening_crashes : (o : Opening) (t u : Told) → Goes t u → IsSoundDisk t o.log → CrashesFrom (clock t) u o []
+opening_crashes o t u goes holds k low high = record {
+  done = [];
+  rest = [];
+  are = refl;
+  later = tt;
+  meets = λ image may chance.
+      inl (whole_prefix image o.log
+      (recovery_keeps_log t u o.log goes holds.synced holds.sound k low (omega (arith, high)) image may));
+}
+
+pub opens_at : (t u v : Told) (log : List Write) → Goes t u → IsSoundDisk t log → KeepsPast u v → OpensAt (clock u) t v log
+opens_at t u v log goes holds past = record {
+  later = goes.later;
+  within = past.later;
+  crash = λ k low high image may.
+      recovery_keeps_log t u log goes holds.synced holds.sound k low high image
+      (subst (λ (f : Table Front). MayLeave f image) (past.same k high) may);
+}
+
+pub keeps_log : (t u : Told) (log : List Write) → Goes t u → IsWell u → IsSoundDisk t log → KeepsLog t u log
+keeps_log t u log goes well sound = record {
+  now = record {
+    well = well;
+    sound = tidied_sound t.image u.image log goes.tidied sound.sound;
+    synced = goes.synced sound.synced;
+  };
+  crash = λ k low high image may. recovery_keeps_log t u log goes sound.synced sound.sound k low high image may;
+}
+
+-- ---- what the calls of an opening make of a disk
+
+Rose-further : (first before now : ℕ) → first ≤ before → Rose before now → Rose first now
+Rose-further first before now early rose = omega arith
+
+pub settings_came : (tells : Bool) (was now : Seen) (len : ℕ) (r : Result StoreSettings LoadSettings) → Loads was now r
+    → (IsTrue tells → AsksOnly settings_file len was.told now.told) → Came tells was now
+settings_came tells was now len r loads asked = record {
+  faults = loads.faults;
+  views = loads.views;
+  outs = loads.outs;
+  goes = λ t. asks_goes settings_file len was.told now.told
+      (λ k. apart_kinds (main k) settings_file (λ is. absurd (cc is))) (asked t);
+}
+
+pub holds_still : (len : ℕ) (t u : Told) (log : List Write) → AsksOnly settings_file len t u → IsSoundDisk t log → IsSoundDisk u log
+holds_still len t u log asks sound = record {
+  well = record {
+    once = subst (λ (i : Image). IsOnce (names i)) (sym asks.image) sound.well.once;
+    paired = ap names asks.fronts ∙ sound.well.paired ∙ ap names (sym asks.image);
+  };
+  sound = subst (λ (i : Image). IsSound i log) (sym asks.image) sound.sound;
+  synced = asks.fronts ∙ sound.synced ∙ ap (map (λ (e : Name × List ℕ). (e.0, front_of e.1))) (sym asks.image);
+}
+
+-- the directory was opened with the settings that were read
+pub opens_by : (tells : Bool) (was now : Seen) (store : Shown) (settings : StoreSettings) → Came tells was now
+    → (IsTrue tells → (log : List Write) → IsSoundDisk was.told log → IsSoundDisk now.told log)
+    → (IsTrue tells → SaysSettings was.told settings) → Came tells now (files_seen store.files)
+    → store.settings ≡ settings
+    → (IsTrue tells → (log : List Write) → IsSoundDisk now.told log
+    → StandsFor store (opening_of log store) [] [])
+    → Opens tells was store
+opens_by tells was now store settings before holds says after are stands = record {
+  came = came_trans tells was now (files_seen store.files) before after;
+  says = λ t. subst (SaysSettings was.told) (sym are) (says t);
+  stands = λ t log is. stands t log (holds t log is);
+}
+
+pub no_settings : (tells : Bool) (was now : Seen) (e : LoadSettings) → Came tells was now
+    → Loads was now (Err e) → (IsTrue tells → Answers (at was.told.image settings_file) (Err e))
+    → IsRefused tells was now (of_settings e)
+no_settings tells was now (Bad error) came loads says = record { cause = λ t. (error, says t); came = came }
+no_settings tells was now settings_disk came loads says = record { cause = inl (loads.disk refl); came = came }
+no_settings tells was now settings_read came loads says = record { cause = inr (loads.read refl); came = came }
+no_settings tells was now settings_memory came loads says = record { cause = tt; came = came }
+
+pub not_opened : (tells : Bool) (was now last : Seen) (e : OpenError) → Came tells was now
+    → Course {T = Unit {0}} tells now last (Err e) → IsRefused tells was last (of_open e)
+not_opened tells was now last open_disk before course = record {
+  cause = inl (Rose-further was.faults now.faults last.faults before.faults (course.disk refl));
+  came = came_trans tells was now last before course.came;
+}
+not_opened tells was now last open_read before course = record {
+  cause = inr (Rose-further was.views now.views last.views before.views (course.read refl));
+  came = came_trans tells was now last before course.came;
+}
+not_opened tells was now last open_memory before course =
+    record { cause = tt; came = came_trans tells was now last before course.came }
+
+-- ---- the status of a run
+
+-- a count that rose behind the opening rose in the run
+pub rose_in_run : (tells : Bool) (was : Seen) (store : Shown) (faults views : ℕ) → Opens tells was store
+    → Rose store.files.faults faults ⊎ Rose store.files.fallible_views views → Rose was.faults faults ⊎ Rose was.views views
+rose_in_run tells was store faults views opens (inl rose) =
+    inl (Rose-further was.faults store.files.faults faults opens.came.faults rose)
+rose_in_run tells was store faults views opens (inr rose) =
+    inr (Rose-further was.views store.files.fallible_views views opens.came.views rose)
+
+pub may_end : (status : Status) → IsBuilt status → MayEnd status
+may_end Done is = tt
+may_end Memory is = tt
+may_end Disk is = tt
+may_end Source is = tt
+may_end Sink is = tt
+may_end Damaged is = tt
+may_end Full is = tt
+may_end Long is = tt
+may_end NotBuilt is = tt
+may_end Settings is = tt
+may_end Words is = absurd is
+may_end Syntax is = absurd is
+may_end Door is = absurd is
+
+pub refused_ends : (tells : Bool) (was now : Seen) (status : Status) → IsRefused tells was now status → MayEnd status
+refused_ends tells was now status refused = go status refused.cause
+  where
+    go : (s : Status) → IsCauseOf s tells was now → MayEnd s
+    go Settings is = tt
+    go Disk is = tt
+    go Memory is = tt
+    go Done is = absurd is
+    go Words is = absurd is
+    go Source is = absurd is
+    go Sink is = absurd is
+    go Syntax is = absurd is
+    go Damaged is = absurd is
+    go Full is = absurd is
+    go Long is = absurd is
+    go NotBuilt is = absurd is
+    go Door is = absurd is
+
+-- what such a refusal says of a status
+pub caused : (tells : Bool) (was now : Seen) (status other : Status) → IsRefused tells was now status → status ≡ other
+    → IsCauseOf other tells was now
+caused tells was now status other refused is = subst (λ (s : Status). IsCauseOf s tells was now) is refused.cause

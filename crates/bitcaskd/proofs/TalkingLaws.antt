@@ -33,13 +33,13 @@ use Rattle.bitcaskd.specs.declared.refusals.Refusal.TheVariants.{Memory as refus
 use Rattle.bk_disk.specs.Counts.{Counted}
 use Rattle.bk_disk.proofs.Counts.{counted_exactly, counted_on}
 use Rattle.bk_disk.specs.Streams.{Wrote}
-use Rattle.bk_store.specs.Events.{IsStepOf}
+use Rattle.bk_store.specs.Events.{IsStepOf, KeepsPast}
 use Rattle.bk_store.specs.History.{kept_of}
 use Rattle.bk_store.specs.Shown.{Shown}
 use Rattle.bk_store.specs.Standing.{StandsFor}
-use Rattle.bitcaskd.specs.Run.{Telling, telling, Reads, Writes, WrittenPart, TakesMost, most_taken, faults_in, views_in, outs_in, IsServed, IsLicensed, IsLater, CrashesBetween, ReadsAll, tried_by}
+use Rattle.bitcaskd.specs.Run.{Telling, telling, Reads, Writes, WrittenPart, TakesMost, most_taken, faults_in, views_in, outs_in, IsServed, IsLicensed, IsLater, CrashesFrom, ReadsAll, tried_by}
 use Rattle.bitcaskd.specs.Serving.{Advances, Answered, IsDueTo, IsOwn, Refused, Site, Ticks, tries}
-use Rattle.bitcaskd.specs.Talking.{Scene, CountedOver, SoFar, status_of, EndsAt, Stopped, MovesOut, FailsOut, WritesSome, Flushed, Inlet, TakesPiece, Gives, Asks, Turns, after_input, StopsAtBad, work_left, scene_of}
+use Rattle.bitcaskd.specs.Talking.{Scene, CountedOver, CrashesOn, SoFar, status_of, EndsAt, Stopped, MovesOut, FailsOut, WritesSome, Flushed, Inlet, TakesPiece, Gives, Asks, Turns, after_input, StopsAtBad, work_left, scene_of}
 
 -- lists that gain a last item
 pub AllByRecursion-snoc : {X : Type 0} (P : X → Type 0) (xs : List X) (x : X) → AllByRecursion P xs → P x
@@ -147,12 +147,12 @@ later_on k rest request now step replies is all =
     (AllByRecursion-snoc (IsLater k) (steps_of rest) step all is)
 
 -- The moments of one more request, which come behind those before it.
-pub crashes_on : (start : Told) (old new : Shown) (o : Opening) (turns : List Exchange) (request : Request) (now : Moment)
+pub crashes_on : (from : ℕ) (old new : Shown) (o : Opening) (turns : List Exchange) (request : Request) (now : Moment)
     (step : Step) (replies : List Reply) (left : List Write)
-    → CrashesBetween start old.files.told o turns
+    → CrashesFrom from old.files.told o turns
     → Advances (tries request now (log_of o (steps_of turns))) old new step o (steps_of turns) left
-    → CrashesBetween start new.files.told o (turns ++ turn_of request now step replies ∷ [])
-crashes_on start old new o turns request now step replies left so a k low high =
+    → CrashesFrom from new.files.told o (turns ++ turn_of request now step replies ∷ [])
+crashes_on from old new o turns request now step replies left so a k low high =
     let t : Exchange = turn_of request now step replies in
     elim (cases_lt k (clock old.files.told)) [
       | inl lt ↦
@@ -177,6 +177,13 @@ crashes_on start old new o turns request now step replies left so a k low high =
         meets = a.crash k ge (omega (arith, high));
       }
     ]
+
+-- what was told of the moments so far is told still
+pub past_on : (t u v : Told) → KeepsPast t u → KeepsPast u v → KeepsPast t v
+past_on t u v a b = let p = a.later in let q = b.later in record {
+  later = omega (arith, p, q);
+  same = λ k low. b.same k (omega (arith, p, low)) ∙ a.same k low;
+}
 
 -- One more request was served, and its reply gathered.
 pub goes_on : (tells : Telling) (o : Opening) (start old : Scene) (site : Site) (before after : Stream)
@@ -211,11 +218,15 @@ goes_on tells o start old site before after gathered more served request so stan
           site.moments (so.ticks t) (a.served.ticks t));
       own = subst (AllByRecursion IsOwn) (sym (flat_map-snoc (λ (t : Exchange). t.steps) served turn))
           (AllByRecursion-snoc IsOwn (steps_of served) a.served.step so.own a.served.own);
+      whole_tells = so.whole_tells;
       stands = λ t. subst (λ (steps : List Step). StandsFor site.store o steps [])
           (sym (flat_map-snoc (λ (t : Exchange). t.steps) served turn))
-          (a.served.goes t o (steps_of served) (so.stands t)).stands;
-      crash = λ t. crashes_on start.site.store.files.told old.site.store site.store o served request a.served.now
-          a.served.step (a.reply ∷ []) [] (so.crash t) (a.served.goes t o (steps_of served) (so.stands t));
+          (a.served.goes (so.whole_tells t) o (steps_of served) (so.stands t)).stands;
+      past = λ t. past_on start.site.store.files.told old.site.store.files.told site.store.files.told (so.past t)
+          (a.served.goes (so.whole_tells t) o (steps_of served) (so.stands t)).past;
+      crash = λ t from first. crashes_on from old.site.store site.store o served request a.served.now
+          a.served.step (a.reply ∷ []) [] (so.crash t from first)
+          (a.served.goes (so.whole_tells t) o (steps_of served) (so.stands t));
       counts = subst (λ (steps : List Step). CountedOver start.site.store site.store steps)
           (sym (flat_map-snoc (λ (t : Exchange). t.steps) served turn))
           (counts_on tells.disk start.site.store old.site.store site.store (steps_of served) a.served.step so.counts
@@ -241,7 +252,9 @@ moves_out tells o start now stream gathered left written faults served so moved 
   );
   ticks = so.ticks;
   own = so.own;
+  whole_tells = so.whole_tells;
   stands = so.stands;
+  past = so.past;
   crash = so.crash;
   counts = so.counts;
   sink = omega (arith, so.sink, later);
@@ -267,7 +280,9 @@ takes_on tells o start now old new gathered served piece so whole taken_is took 
   made = so.made;
   ticks = so.ticks;
   own = so.own;
+  whole_tells = so.whole_tells;
   stands = so.stands;
+  past = so.past;
   crash = so.crash;
   counts = so.counts;
   sink = so.sink;
@@ -301,13 +316,15 @@ all_served Door served = refl
 
 -- a run whose requests were all served
 ends_standing : (status : Status) (o : Opening) (start now : Shown) (served : List Exchange)
-    → StandsFor now o (steps_of served) [] → CrashesBetween start.files.told now.files.told o served
+    → StandsFor now o (steps_of served) [] → KeepsPast start.files.told now.files.told
+    → CrashesOn start.files.told now.files.told o served
     → IsLicensed status o (steps_of served) → EndsAt status o start now (whole_talk served)
-ends_standing status o start now served stands crash why = record {
+ends_standing status o start now served stands past crash why = record {
   tried = [];
   by = inl refl;
   stands = subst (λ (ts : List Exchange). StandsFor now o (steps_of ts) []) (sym (append-nil served)) stands;
-  crash = subst (λ (ts : List Exchange). CrashesBetween start.files.told now.files.told o ts) (sym (append-nil served)) crash;
+  past = past;
+  crash = subst (λ (ts : List Exchange). CrashesOn start.files.told now.files.told o ts) (sym (append-nil served)) crash;
   why = why;
 }
 
@@ -352,7 +369,7 @@ ends tells o start now stream whole took served status so same reads most why = 
       (sym (append-nil served)) (so.ticks t);
   most = most;
   own = subst (λ (ts : List Exchange). AllByRecursion IsOwn (steps_of ts)) (sym (append-nil served)) so.own;
-  ends = λ t. ends_standing status o start.site.store now.site.store served (so.stands t) (so.crash t) why;
+  ends = λ t. ends_standing status o start.site.store now.site.store served (so.stands t) (so.past t) (so.crash t) why;
   counts = subst (λ (ts : List Exchange). CountedOver start.site.store now.site.store (steps_of ts))
       (sym (append-nil served)) so.counts;
 }
@@ -399,7 +416,7 @@ sink_ends tells o start now stream gathered written faults served so failed = re
       (sym (append-nil served)) (so.ticks t);
   most = tt;
   own = subst (λ (ts : List Exchange). AllByRecursion IsOwn (steps_of ts)) (sym (append-nil served)) so.own;
-  ends = λ t. ends_standing Sink o start.site.store now.site.store served (so.stands t) (so.crash t) tt;
+  ends = λ t. ends_standing Sink o start.site.store now.site.store served (so.stands t) (so.past t) (so.crash t) tt;
   counts = subst (λ (ts : List Exchange). CountedOver start.site.store now.site.store (steps_of ts))
       (sym (append-nil served)) so.counts;
 }
@@ -473,13 +490,14 @@ refused_ends status refusal tells o start old site before after gathered written
       most = most start.taken old.taken;
       own = subst (AllByRecursion IsOwn) (sym (flat_map-snoc (λ (t : Exchange). t.steps) served turn))
           (AllByRecursion-snoc IsOwn (steps_of served) r.step so.own r.own);
-      ends = λ t. let (why, (left, by, a)) = r.leaves t o (steps_of served) (so.stands t) in record {
+      ends = λ t. let (why, (left, by, a)) = r.leaves (so.whole_tells t) o (steps_of served) (so.stands t) in record {
         tried = left;
         by = by;
         stands = subst (λ (steps : List Step). StandsFor site.store o steps left)
             (sym (flat_map-snoc (λ (t : Exchange). t.steps) served turn)) a.stands;
-        crash = crashes_on start.site.store.files.told old.site.store site.store o served request r.now r.step [] left
-            (so.crash t) a;
+        past = past_on start.site.store.files.told old.site.store.files.told site.store.files.told (so.past t) a.past;
+        crash = λ from first. crashes_on from old.site.store site.store o served request r.now r.step [] left
+            (so.crash t from first) a;
         why = due (steps_of served) why;
       };
       counts = subst (λ (steps : List Step). CountedOver start.site.store site.store steps)
@@ -530,7 +548,7 @@ memory_ends tells o start now stream gathered written faults served so flushed =
       (sym (append-nil served)) (so.ticks t);
   most = tt;
   own = subst (λ (ts : List Exchange). AllByRecursion IsOwn (steps_of ts)) (sym (append-nil served)) so.own;
-  ends = λ t. ends_standing Memory o start.site.store now.site.store served (so.stands t) (so.crash t) tt;
+  ends = λ t. ends_standing Memory o start.site.store now.site.store served (so.stands t) (so.past t) (so.crash t) tt;
   counts = subst (λ (ts : List Exchange). CountedOver start.site.store now.site.store (steps_of ts))
       (sym (append-nil served)) so.counts;
 }
@@ -765,10 +783,10 @@ reads_more no_memory last dt st kt ct site old new written faults gathered later
 
 -- how far a run has come before its first request
 pub nothing_yet : (tells : Telling) (o : Opening) (start : Scene) (stream : Stream)
-    → (IsTrue tells.disk → StandsFor start.site.store o [] [])
+    → (IsTrue o.whole → IsTrue tells.disk) → (IsTrue o.whole → StandsFor start.site.store o [] [])
     → stream.rest ≡ [] → taken stream ≡ 0
     → SoFar tells o start start stream [] []
-nothing_yet tells o start stream stands empty none = record {
+nothing_yet tells o start stream whole_tells stands empty none = record {
   each = tt;
   whole = λ t. refl;
   read = λ t. ap (λ (l : List ℕ). l ++ drop start.taken start.whole) (sym empty);
@@ -776,8 +794,10 @@ nothing_yet tells o start stream stands empty none = record {
   made = λ t. ([], sym (append-nil start.written), refl);
   ticks = λ t. refl;
   own = tt;
+  whole_tells = whole_tells;
   stands = stands;
-  crash = λ t k low high. absurd (omega (arith, low, high));
+  past = λ t. record { later = omega arith; same = λ k low. refl };
+  crash = λ t from first. first;
   counts = record {
     faults = counted_exactly start.site.store.files.faults 0 start.site.store.files.faults (omega arith);
     views = counted_exactly start.site.store.files.fallible_views 0 start.site.store.files.fallible_views (omega arith);

@@ -1,5 +1,4 @@
 pub mod Closing
-pub mod Found
 pub mod Opening
 pub mod Refusal
 pub mod Run

@@ -1,5 +1,5 @@
 -- What one run of `pipe` does, from the bytes of its source to the bytes of its sink.
-use Rattle.std.specs.Prelude.{◌≡◌, ◌≢◌, ◌⊎◌, ℕ, ◌+◌, ◌<◌, ◌≤◌, List, [], ◌∷◌, ◌++◌, Bool, IsTrue, Some, length, drop, sum_by, codes, false}
+use Rattle.std.specs.Prelude.{◌≡◌, ◌⊎◌, ℕ, ◌+◌, ◌<◌, ◌≤◌, List, [], ◌∷◌, ◌++◌, Bool, IsTrue, Some, length, drop, sum_by, codes, false}
 use Rattle.std.specs.List.{AllByRecursion}
 use Rattle.bk_base.specs.declared.limits.TheConstants.{LONGEST_SESSION}
 use Rattle.bk_base.specs.declared.numbers.Moment.{Moment}
@@ -7,17 +7,22 @@ use Rattle.bk_base.specs.declared.histories.Opening.{Opening}
 use Rattle.bk_base.specs.declared.histories.Step.{Step}
 use Rattle.bk_base.specs.declared.calls.Call.TheVariants.{Sync, Quiet}
 use Rattle.bk_base.specs.declared.statuses.Status.{Status}
-use Rattle.bk_base.specs.declared.statuses.Status.TheVariants.{Done, Memory, Disk, Source, Sink, Damaged, Full, Long, NotBuilt}
+use Rattle.bk_base.specs.declared.statuses.Status.TheVariants.{Done, Memory, Disk, Source, Sink, Settings, Damaged, Full, Long, NotBuilt}
 use Rattle.bk_base.specs.declared.writes.Write.{Write}
 use Rattle.bk_disk.specs.Causes.{Rose}
 use Rattle.bk_disk.specs.Crashes.{MayLeaveNow, fronts_at}
 use Rattle.bk_disk.specs.Told.{Front, Image, Table, Told, clock}
 use Rattle.bk_image.specs.Prefix.{MeetsEither, MeetsPrefix, Prefix}
+use Rattle.bk_image.specs.SoundDirectory.{IsSoundDisk}
 use Rattle.bk_laws.specs.History.{IsLegalHistory, log_of}
 use Rattle.bk_laws.specs.Wire.{IsPartial}
 use Rattle.bk_laws.specs.Session.{Exchange, Transcript, IsTranscript, all_exchanges, requests_of, replies_of, steps_of, moments_of, NoneOffered}
 use Rattle.bk_disk.specs.Counts.{Counted}
+use Rattle.bk_load.specs.Courses.{Seen}
+use Rattle.bk_policy.specs.declared.settings.Settings.{Settings as StoreSettings}
 use Rattle.bk_store.specs.History.{kept_of}
+use Rattle.bk_store.specs.Shown.{settings_of}
+use Rattle.bitcaskd.specs.Opening.{IsRefused, KeepsLog, LeavesLog, SaysSettings}
 use Rattle.bitcaskd.specs.Serving.{IsFull, IsLeft, IsOwn, Ticks, tries}
 
 -- which of the four objects tell their content
@@ -52,6 +57,10 @@ outside told faults views outs whole taken written sink_faults moments = record 
   sink_faults = sink_faults;
   moments = moments;
 }
+
+-- the disk alone
+abbrev pub seen_in : Outside → Seen
+seen_in o = record { told = o.told; faults = o.faults; views = o.views; outs = o.outs }
 
 abbrev pub telling : Bool → Bool → Bool → Bool → Telling
 telling disk source sink clock = record { disk = disk; source = source; sink = sink; clock = clock }
@@ -125,7 +134,7 @@ TakesMost Long tells start now = IsTrue tells → now ≡ start + most_taken
 TakesMost Done tells start now = IsTrue tells → now < start + most_taken
 TakesMost status tells start now = Unit {0}
 
--- the statuses that a run may end with
+-- the statuses that a run may end with, once its store is opened
 abbrev pub IsBuilt : Status → Type 0
 IsBuilt Done = Unit {0}
 IsBuilt Memory = Unit {0}
@@ -137,6 +146,11 @@ IsBuilt Full = Unit {0}
 IsBuilt Long = Unit {0}
 IsBuilt NotBuilt = Unit {0}
 IsBuilt status = ⊥
+
+-- those of every run: it also ends where the file of the settings says none
+abbrev pub MayEnd : Status → Type 0
+MayEnd Settings = Unit {0}
+MayEnd status = IsBuilt status
 
 -- all steps of a run
 abbrev pub all_steps : Transcript → List Step → List Step
@@ -185,56 +199,78 @@ pub record CrashesAt (o : Opening) (turns : List Exchange) (k : ℕ) (fronts : T
   pub meets : MeetsEither (log_of o (steps_of done)) (kept_of o (steps_of done)) []
       (tried_by rest (log_of o (steps_of done))) fronts
 
--- at each moment from one to the other
-abbrev pub CrashesBetween : Told → Told → Opening → List Exchange → Type 0
-CrashesBetween old new o turns = (k : ℕ) → clock old ≤ k → k < clock new → CrashesAt o turns k (fronts_at new k)
+-- at each moment from this one until now
+abbrev pub CrashesFrom : ℕ → Told → Opening → List Exchange → Type 0
+CrashesFrom from new o turns = (k : ℕ) → from ≤ k → k < clock new → CrashesAt o turns k (fronts_at new k)
 
 -- each of these steps ended at this moment
 abbrev pub AreAt : Told → List Step → Type 0
 AreAt t steps = AllByRecursion (λ (step : Step). step.at ≡ Some (clock t)) steps
 
--- an opening without writes and folds, and without a time to live
-pub record IsNew (o : Opening) : Type 0 where
-  pub log : o.log ≡ []
+-- The history opens with this log and no fold, and with the settings that the directory's file says.
+pub record IsOpenedBy (tells : Telling) (old : Outside) (found : List Write) (known : Bool) (o : Opening) : Type 0 where
+  pub log : o.log ≡ found
   pub folds : o.folds ≡ []
-  pub ttl : o.settings.ttl ≡ 0
+  pub whole : o.whole ≡ known
+  pub settings : StoreSettings
+  pub says : IsTrue tells.disk → SaysSettings old.told settings
+  pub are : o.settings ≡ settings_of settings
+  pub faults : old.faults ≤ o.faults
+  pub views : old.views ≤ o.views
+  pub outs : o.outs ≡ old.outs
 
--- The run: one history from the empty log, whose replies are what was written.
-pub record Runs (tells : Telling) (old new : Outside) (status : Status) : Type 0 where
+-- The store was opened at this moment of the disk's clock. A crash up to then leaves the log as it was.
+pub record OpensAt (opened : ℕ) (old new : Told) (log : List Write) : Type 0 where
+  pub later : clock old ≤ opened
+  pub within : opened ≤ clock new
+  pub crash : (k : ℕ) → clock old ≤ k → k ≤ opened → LeavesLog log (fronts_at new k)
+
+-- The run is one history, whose replies are what was written. What is said of the store is said where the
+-- opening is `whole`; the rest holds over every disk.
+pub record IsRun (tells : Telling) (old new : Outside) (status : Status) (log : List Write) (whole : Bool)
+    : Type 0 where
   pub opening : Opening
   pub talk : Transcript
   pub closing : List Step
-  pub is_new : IsNew opening
-  pub listed : IsTrue tells.disk → old.told.image ≡ []
+  pub is_opened : IsOpenedBy tells old log whole opening
+  pub built : IsBuilt status
   pub said : IsTranscript 0 talk
   pub served : IsServed status talk
-  pub whole : IsTrue tells.source → new.whole ≡ old.whole
+  pub source : IsTrue tells.source → new.whole ≡ old.whole
   pub reads : IsTrue tells.source → Reads status (drop old.taken old.whole) (drop new.taken new.whole) talk
   pub writes : IsTrue tells.sink → (out : List ℕ) × (new.written ≡ old.written ++ out)
       × Writes status old.sink_faults new.sink_faults out (replies_of talk.served)
   pub ticks : IsTrue tells.clock → Ticks (moments_of (all_exchanges talk)) old.moments new.moments
-  pub closes : Closes tells.disk new.told (log_of opening (steps_of (all_exchanges talk))) status closing
+  pub closes : Closes whole new.told (log_of opening (steps_of (all_exchanges talk))) status closing
   pub most : TakesMost status tells.source old.taken new.taken
   pub own : AllByRecursion IsOwn (all_steps talk closing)
-  pub legal : IsTrue tells.disk → IsLegalHistory opening (all_steps talk closing)
-  pub why : IsTrue tells.disk → IsLicensed status opening (steps_of talk.served)
-  pub left : IsTrue tells.disk → IsLeftWith new.told opening (all_steps talk closing) (steps_of talk.served) talk.cut
-  pub crash : IsTrue tells.disk → CrashesBetween old.told new.told opening (all_exchanges talk)
-  pub closed : IsTrue tells.disk → AreAt new.told closing
-  pub from : (old.faults ≤ opening.faults) × (old.views ≤ opening.views) × (old.outs ≤ opening.outs)
+  pub legal : IsTrue whole → IsLegalHistory opening (all_steps talk closing)
+  pub why : IsTrue whole → IsLicensed status opening (steps_of talk.served)
+  pub left : IsTrue whole → IsLeftWith new.told opening (all_steps talk closing) (steps_of talk.served) talk.cut
+  pub opened : IsTrue whole → (k : ℕ) × OpensAt k old.told new.told log
+  pub crash : IsTrue whole → CrashesFrom (clock old.told) new.told opening (all_exchanges talk)
+  pub closed : IsTrue whole → AreAt new.told closing
   pub faults : Counted false opening.faults (faults_in (all_steps talk closing)) new.faults
   pub views : Counted false opening.views (views_in (all_steps talk closing)) new.views
   pub outs : Counted false opening.outs (outs_in (all_steps talk closing)) new.outs
+
+-- It is so for each log that the directory holds. Where none is known of it, because the disk doesn't tell
+-- or its directory isn't sound, it is so for every log with an opening that isn't `whole`.
+abbrev pub Runs : Telling → Outside → Outside → Status → Type 0
+Runs tells old new status = (log : List Write) (whole : Bool)
+    → (IsTrue whole → IsTrue tells.disk × IsSoundDisk old.told log) → IsRun tells old new status log whole
 
 -- The words are those of `pipe` with a directory.
 abbrev pub IsPipe : List (List ℕ) → Type 0
 IsPipe words = (dir : List ℕ) × (words ≡ codes "pipe" ∷ dir ∷ []) × (0 < length dir)
 
--- The run ended before it read anything: a file of a store was there, or the listing was refused.
+-- The directory wasn't opened: nothing was read or written, and no moment was asked for. Whatever log the
+-- directory held, it still holds.
 pub record Refuses (tells : Telling) (old new : Outside) (status : Status) : Type 0 where
-  pub cause : ((status ≡ NotBuilt) × (IsTrue tells.disk → old.told.image ≢ []))
-      ⊎ (((status ≡ Disk) × Rose old.faults new.faults) ⊎ (status ≡ Memory))
-  pub told : IsTrue tells.disk → new.told ≡ old.told
+  pub is_refused : IsRefused tells.disk (seen_in old) (seen_in new) status
+  pub keeps : IsTrue tells.disk → (log : List Write) → IsSoundDisk old.told log → KeepsLog old.told new.told log
+  pub whole : new.whole ≡ old.whole
   pub taken : new.taken ≡ old.taken
   pub written : new.written ≡ old.written
+  pub sink_faults : new.sink_faults ≡ old.sink_faults
   pub moments : new.moments ≡ old.moments

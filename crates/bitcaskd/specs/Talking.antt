@@ -14,9 +14,11 @@ use Rattle.bk_laws.specs.Wire.{StandsIn}
 use Rattle.bk_wire.specs.Stream.{Stream, taken}
 use Rattle.bk_disk.specs.Counts.{Counted}
 use Rattle.bk_disk.specs.Streams.{Wrote, LeftOver}
+use Rattle.bk_disk.specs.Told.{Told}
+use Rattle.bk_store.specs.Events.{KeepsPast}
 use Rattle.bk_store.specs.Shown.{Shown}
 use Rattle.bk_store.specs.Standing.{StandsFor}
-use Rattle.bitcaskd.specs.Run.{Telling, telling, Outside, Reads, Writes, TakesMost, most_taken, faults_in, views_in, outs_in, IsServed, IsLicensed, CrashesBetween, tried_by}
+use Rattle.bitcaskd.specs.Run.{Telling, telling, Outside, Reads, Writes, TakesMost, most_taken, faults_in, views_in, outs_in, IsServed, IsLicensed, CrashesFrom, tried_by}
 use Rattle.bitcaskd.specs.Serving.{Site, Ticks, IsLeft, IsOwn}
 use Rattle.bitcaskd.specs.declared.input.Input.{Input}
 use Rattle.bitcaskd.specs.declared.refusals.Refusal.{Refusal}
@@ -51,6 +53,10 @@ pub record CountedOver (old new : Shown) (steps : List Step) : Type 0 where
   pub views : Counted false old.files.fallible_views (views_in steps) new.files.fallible_views
   pub outs : Counted false old.files.fallible_outs (outs_in steps) new.files.fallible_outs
 
+-- From whatever moment on crashes met the history as it began, with these requests they do so still.
+abbrev pub CrashesOn : Told → Told → Opening → List Exchange → Type 0
+CrashesOn start now o turns = (from : ℕ) → CrashesFrom from start o [] → CrashesFrom from now o turns
+
 -- Between two requests: these turns were served, the reader holds what was taken behind their
 -- requests, and what was written and gathered are their replies.
 pub record SoFar (tells : Telling) (o : Opening) (start now : Scene) (stream : Stream) (gathered : List ℕ)
@@ -64,9 +70,10 @@ pub record SoFar (tells : Telling) (o : Opening) (start now : Scene) (stream : S
       × (out ++ gathered ≡ replies_of served)
   pub ticks : IsTrue tells.clock → Ticks (moments_of served) start.site.moments now.site.moments
   pub own : AllByRecursion IsOwn (steps_of served)
-  pub stands : IsTrue tells.disk → StandsFor now.site.store o (steps_of served) []
-  pub crash : IsTrue tells.disk
-      → CrashesBetween start.site.store.files.told now.site.store.files.told o served
+  pub whole_tells : IsTrue o.whole → IsTrue tells.disk
+  pub stands : IsTrue o.whole → StandsFor now.site.store o (steps_of served) []
+  pub past : IsTrue o.whole → KeepsPast start.site.store.files.told now.site.store.files.told
+  pub crash : IsTrue o.whole → CrashesOn start.site.store.files.told now.site.store.files.told o served
   pub counts : CountedOver start.site.store now.site.store (steps_of served)
   pub sink : start.sink_faults ≤ now.sink_faults
 
@@ -76,7 +83,8 @@ pub record EndsAt (status : Status) (o : Opening) (start now : Shown) (talk : Tr
   pub tried : List Write
   pub by : IsLeft (tried_by talk.cut (log_of o (steps_of talk.served))) tried
   pub stands : StandsFor now o (steps_of (all_exchanges talk)) tried
-  pub crash : CrashesBetween start.files.told now.files.told o (all_exchanges talk)
+  pub past : KeepsPast start.files.told now.files.told
+  pub crash : CrashesOn start.files.told now.files.told o (all_exchanges talk)
   pub why : IsLicensed status o (steps_of talk.served)
 
 -- The run ended before its last sync.
@@ -91,13 +99,13 @@ pub record Stopped (tells : Telling) (o : Opening) (start now : Scene) (status :
   pub ticks : IsTrue tells.clock → Ticks (moments_of (all_exchanges talk)) start.site.moments now.site.moments
   pub most : TakesMost status tells.source start.taken now.taken
   pub own : AllByRecursion IsOwn (steps_of (all_exchanges talk))
-  pub ends : IsTrue tells.disk → EndsAt status o start.site.store now.site.store talk
+  pub ends : IsTrue o.whole → EndsAt status o start.site.store now.site.store talk
   pub counts : CountedOver start.site.store now.site.store (steps_of (all_exchanges talk))
 
--- it is said of each opening for which the store stood with no step
+-- It is said of each opening. Where it is `whole`, the disk tells and the store stood for it with no step.
 abbrev pub StopsFor : Telling → Scene → Scene → Status → Type 0
-StopsFor tells start now status = (o : Opening) → (IsTrue tells.disk → StandsFor start.site.store o [] [])
-    → Stopped tells o start now status
+StopsFor tells start now status = (o : Opening) → (IsTrue o.whole → IsTrue tells.disk)
+    → (IsTrue o.whole → StandsFor start.site.store o [] []) → Stopped tells o start now status
 
 -- what is left to be read falls with each turn
 abbrev pub work_left : Stream → ℕ

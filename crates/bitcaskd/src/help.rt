@@ -10,7 +10,8 @@ Usage:
   bitcaskd --help      prints this text
   bitcaskd --version   prints the version
 
-DIR is a folder that is there and has no file of a store. One process at a time has it.
+DIR is a folder that is there; what earlier runs put is kept. One process at a time has it. Its file
+bitcask.toml, where there is one, has the settings.
 
 Requests. Numbers are decimal without leading zeros, and each line ends in a line feed.
   PUT k v    then k bytes of key (1 to 65535), v bytes of value (0 to 16777216) and a line feed.
@@ -29,7 +30,10 @@ Exit status, with its word on standard error:
    3  disk       a file of DIR could not be read or written, or is not a regular file
    4  source     standard input could not be read
    5  sink       standard output could not be written
+   7  settings   bitcask.toml doesn't say settings
+   8  damaged    a record isn't the one that was written
+   9  full       the last number of a write or of a file is given out
   10  long       the input has more than 1099511627776 bytes
-  11  notbuilt   the words are none of the above, DIR has a file of a store, or the input has
-                 something that is no PUT and no GET, or ends within one
+  11  notbuilt   the words are none of the above, or the input has something that is no PUT and no
+                 GET, or ends within one
 ";

@@ -1,46 +1,53 @@
-//! The store of a directory without files.
-ghost use Rattle.std.specs.Prelude.{◌≡◌, [], IsTrue};
-ghost use Rattle.bk_policy.specs.Settings.{defaults};
-ghost use Rattle.bk_store.specs.Standing.{StandsFor};
-ghost use Rattle.bk_store.specs.Starting.{opening_of};
-ghost use Rattle.bitcaskd.specs.Opening.{IsNothing};
+//! The store of a directory, opened with the settings that its file says.
+ghost use Rattle.std.specs.Prelude.{◌≡◌, IfErr, IfOk, IsTrue};
+ghost use Rattle.bk_load.specs.Tidying.{NoneLent};
+ghost use Rattle.bitcaskd.specs.Opening.{IsRefused, Opens, of_open, of_settings};
 
-use bk_base::{FileId, Seq};
+use bk_base::Status;
 use bk_disk::Disk;
-use bk_keydir::{Keydir, Loaded, Report};
-use bk_policy::Settings;
+use bk_load::{LoadSettings, OpenError, open, settings};
 use bk_store::Store;
 use std::alloc::Global;
 
-/// The store over a disk without files. It stands for the empty log and no step.
-pub fn new_store<D: Disk>(alloc: Global, disk: D) -> Store<D>
-    requires { IsTrue D.tells → (D.told disk).image ≡ [] }
-    ensures told { result.files.told ≡ D.told disk }
-    ensures faults { result.files.faults ≡ D.faults disk }
-    ensures views { result.files.fallible_views ≡ D.fallible_views disk }
-    ensures outs { result.files.fallible_outs ≡ D.fallible_outs disk }
-    ensures settings { result.settings ≡ defaults }
-    ensures stands { IsTrue D.tells → StandsFor result (opening_of [] result) [] [] }
+/// Opens a directory, whatever a crash left of it. After a refusal the disk comes back, with the status
+/// of the run that ends so.
+pub fn open_store<D: Disk>(alloc: Global, mut disk: D) -> Result<Store<D>, (D, Status)>
+    requires { IsTrue D.tells → NoneLent (D.told disk).fronts }
+    ensures opens { IfOk result (λ store. Opens D.tells
+        (record { told = D.told disk; faults = D.faults disk; views = D.fallible_views disk; outs = D.fallible_outs disk })
+        store) }
+    ensures refused { IfErr result (λ refused. IsRefused D.tells
+        (record { told = D.told disk; faults = D.faults disk; views = D.fallible_views disk; outs = D.fallible_outs disk })
+        (record { told = D.told refused.0; faults = D.faults refused.0; views = D.fallible_views refused.0; outs = D.fallible_outs refused.0 })
+        refused.1) }
 {
-    let loaded = nothing_loaded(alloc);
-    Store::start(alloc, disk, loaded, Settings::plain())
+    let settings = match settings(alloc, &mut disk) {
+        Ok(settings) => settings,
+        Err(error) => return Err((disk, of_settings(error))),
+    };
+    match open(alloc, disk, settings) {
+        Ok(store) => Ok(store),
+        Err((disk, error)) => Err((disk, of_open(error))),
+    }
 }
 
-// What a directory without files gives.
-fn nothing_loaded(alloc: Global) -> Loaded
-    ensures { IsNothing result }
+/// The status of a run without settings.
+fn of_settings(error: LoadSettings) -> Status
+    ensures { result ≡ of_settings error }
 {
-    Loaded {
-        keydir: Keydir::new(alloc),
-        rows: Vec::new(alloc),
-        report: Report {
-            torn: Vec::new(alloc),
-            hints: Vec::new(alloc),
-            odd: Vec::new(alloc),
-            hinted: 0,
-            scanned: 0,
-        },
-        last_seq: Seq(0),
-        last_file: FileId(0),
+    match error {
+        LoadSettings::Bad(_) => Status::Settings,
+        LoadSettings::Disk | LoadSettings::Read => Status::Disk,
+        LoadSettings::Memory => Status::Memory,
+    }
+}
+
+/// The status of a run whose directory wasn't recovered.
+fn of_open(error: OpenError) -> Status
+    ensures { result ≡ of_open error }
+{
+    match error {
+        OpenError::Disk | OpenError::Read => Status::Disk,
+        OpenError::Memory => Status::Memory,
     }
 }

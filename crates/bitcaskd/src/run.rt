@@ -1,14 +1,17 @@
 //! The program: from its words, a disk and two streams to a status.
-ghost use Rattle.std.specs.Prelude.{◌≡◌, ◌⊎◌, ◌↔◌, ◌<◌, ◌≤◌, [], Some, IsTrue, IsSome, length, map, string_bytes};
+ghost use Rattle.std.specs.Prelude.{◌≡◌, ◌⊎◌, ◌↔◌, ◌<◌, Some, IsTrue, IsSome, length, map, string_bytes};
 ghost use Rattle.bk_disk.specs.Causes.{Rose};
-ghost use Rattle.bitcaskd.specs.Found.{Finds};
-ghost use Rattle.bitcaskd.specs.Run.{IsBuilt, IsPipe, Refuses, Runs, outside, telling};
+ghost use Rattle.bk_load.specs.Courses.{Seen};
+ghost use Rattle.bk_load.specs.Tidying.{NoneLent};
+ghost use Rattle.bitcaskd.specs.Opening.{Opens};
+ghost use Rattle.bitcaskd.specs.Run.{IsBuilt, IsPipe, MayEnd, Refuses, Runs, outside, telling};
 
 use crate::closing::close;
-use crate::opening::new_store;
+use crate::opening::open_store;
 use crate::talking::talk;
 use bk_base::Status;
-use bk_disk::{Clock, Disk, DiskError, Sink, Source};
+use bk_disk::{Clock, Disk, Sink, Source};
+use bk_store::Store;
 use std::alloc::Global;
 
 /// What a run gives back: the disk, and how the run ended.
@@ -29,45 +32,15 @@ pub fn directory_of(words: &[String]) -> Option<usize>
     }
 }
 
-/// What the listing of a new store's directory found.
-enum Found {
-    Nothing,
-    Files,
-    Failed,
-    Memory,
-}
-
-/// Looks for files of a store.
-fn look<D: Disk>(disk: &mut D) -> Found
-    ensures found { IsTrue D.tells → Finds result (D.told disk.old).image }
-    ensures told { IsTrue D.tells → D.told disk.new ≡ D.told disk.old }
-    ensures later { D.faults disk.old ≤ D.faults disk.new }
-    ensures failed { result ≡ Found.Failed → Rose (D.faults disk.old)
-        (D.faults disk.new) }
-    ensures views { D.fallible_views disk.new ≡ D.fallible_views disk.old }
-    ensures outs { D.fallible_outs disk.new ≡ D.fallible_outs disk.old }
-{
-    match disk.list() {
-        Ok(files) => {
-            if files.is_empty() {
-                Found::Nothing
-            } else {
-                Found::Files
-            }
-        }
-        Err(DiskError::Failed) => Found::Failed,
-        Err(DiskError::Memory) => Found::Memory,
-    }
-}
-
-/// Runs over a disk, which has to be without files of a store.
+/// Runs over a disk: it is opened, and the requests are answered.
 fn over_disk<D: Disk, S: Source, K: Sink, C: Clock>(
     alloc: Global,
-    mut disk: D,
+    disk: D,
     source: &mut S,
     sink: &mut K,
     clock: &mut C,
 ) -> Ended<D>
+    requires { IsTrue D.tells → NoneLent (D.told disk).fronts }
     ensures ran { let tells = telling D.tells S.tells K.tells C.tells in
         let old = outside (D.told disk) (D.faults disk) (D.fallible_views disk) (D.fallible_outs disk)
         (S.whole source.old) (S.taken source.old) (K.written sink.old) (K.faults sink.old) (C.moments clock.old) in
@@ -75,54 +48,40 @@ fn over_disk<D: Disk, S: Source, K: Sink, C: Clock>(
         (D.fallible_outs result.disk) (S.whole source.new) (S.taken source.new) (K.written sink.new) (K.faults sink.new)
         (C.moments clock.new) in
         Refuses tells old new result.status ⊎ Runs tells old new result.status }
-    ensures built { IsBuilt result.status }
+    ensures ends { MayEnd result.status }
     ensures disk { result.status ≡ Status.Disk → Rose (D.faults disk) (D.faults result.disk)
         ⊎ Rose (D.fallible_views disk) (D.fallible_views result.disk) }
     ensures source { result.status ≡ Status.Source
         → Rose (S.faults source.old) (S.faults source.new) }
     ensures sink { result.status ≡ Status.Sink → Rose (K.faults sink.old) (K.faults sink.new) }
 {
-    match look(&mut disk) {
-        Found::Nothing => over_empty(alloc, disk, source, sink, clock),
-        Found::Files => Ended {
-            disk,
-            status: Status::NotBuilt,
-        },
-        Found::Failed => Ended {
-            disk,
-            status: Status::Disk,
-        },
-        Found::Memory => Ended {
-            disk,
-            status: Status::Memory,
-        },
+    match open_store(alloc, disk) {
+        Ok(store) => over_store(alloc, store, source, sink, clock),
+        Err((disk, status)) => Ended { disk, status },
     }
 }
 
-/// Runs over a disk without files.
-fn over_empty<D: Disk, S: Source, K: Sink, C: Clock>(
+/// Runs over a store that was opened.
+fn over_store<D: Disk, S: Source, K: Sink, C: Clock>(
     alloc: Global,
-    disk: D,
+    mut store: Store<D>,
     source: &mut S,
     sink: &mut K,
     clock: &mut C,
 ) -> Ended<D>
-    requires { IsTrue D.tells → (D.told disk).image ≡ [] }
-    ensures ran { let tells = telling D.tells S.tells K.tells C.tells in
-        let old = outside (D.told disk) (D.faults disk) (D.fallible_views disk) (D.fallible_outs disk)
-        (S.whole source.old) (S.taken source.old) (K.written sink.old) (K.faults sink.old) (C.moments clock.old) in
-        let new = outside (D.told result.disk) (D.faults result.disk) (D.fallible_views result.disk)
+    ensures ran { (was : Seen) → Opens D.tells was store → Runs (telling D.tells S.tells K.tells C.tells)
+        (outside was.told was.faults was.views was.outs (S.whole source.old) (S.taken source.old)
+        (K.written sink.old) (K.faults sink.old) (C.moments clock.old))
+        (outside (D.told result.disk) (D.faults result.disk) (D.fallible_views result.disk)
         (D.fallible_outs result.disk) (S.whole source.new) (S.taken source.new) (K.written sink.new) (K.faults sink.new)
-        (C.moments clock.new) in
-        Runs tells old new result.status }
+        (C.moments clock.new)) result.status }
     ensures built { IsBuilt result.status }
-    ensures disk { result.status ≡ Status.Disk → Rose (D.faults disk) (D.faults result.disk)
-        ⊎ Rose (D.fallible_views disk) (D.fallible_views result.disk) }
+    ensures disk { result.status ≡ Status.Disk → Rose store.files.faults (D.faults result.disk)
+        ⊎ Rose store.files.fallible_views (D.fallible_views result.disk) }
     ensures source { result.status ≡ Status.Source
         → Rose (S.faults source.old) (S.faults source.new) }
     ensures sink { result.status ≡ Status.Sink → Rose (K.faults sink.old) (K.faults sink.new) }
 {
-    let mut store = new_store(alloc, disk);
     let stopped = talk(alloc, &mut store, source, sink, clock);
     let status = close(&mut store, stopped);
     Ended {
@@ -131,8 +90,8 @@ fn over_empty<D: Disk, S: Source, K: Sink, C: Clock>(
     }
 }
 
-/// Runs `pipe`: answers the requests of the source on the sink, over a disk that has no file of a
-/// store. The status says how it ended, and all that it did is one history of a map.
+/// Runs `pipe`: opens the directory, whatever a crash left of it, and answers the requests of the source
+/// on the sink. The status says how it ended, and all that it did is one history of a map.
 pub fn run<D: Disk, S: Source, K: Sink, C: Clock>(
     alloc: Global,
     words: &[String],
@@ -141,6 +100,8 @@ pub fn run<D: Disk, S: Source, K: Sink, C: Clock>(
     sink: &mut K,
     clock: &mut C,
 ) -> Ended<D>
+    requires { IsTrue D.tells → NoneLent (D.told disk).fronts }
+
     // Words that aren't those of `pipe` are refused before anything is touched.
     ensures words { ¬ (IsPipe (map string_bytes words.now)) → result.status ≡ Status.NotBuilt }
     ensures disk_same { ¬ (IsPipe (map string_bytes words.now)) → result.disk ≡ disk }
@@ -148,8 +109,8 @@ pub fn run<D: Disk, S: Source, K: Sink, C: Clock>(
     ensures sink_same { ¬ (IsPipe (map string_bytes words.now)) → sink.new ≡ sink.old }
     ensures clock_same { ¬ (IsPipe (map string_bytes words.now)) → clock.new ≡ clock.old }
 
-    // Otherwise the run is refused before it reads anything, or it is one history, from the bytes
-    // read to the bytes written.
+    // Otherwise the directory isn't opened, or the run is one history, from the bytes read to the bytes
+    // written.
     ensures ran { let tells = telling D.tells S.tells K.tells C.tells in
         let old = outside (D.told disk) (D.faults disk) (D.fallible_views disk) (D.fallible_outs disk)
         (S.whole source.old) (S.taken source.old) (K.written sink.old) (K.faults sink.old) (C.moments clock.old) in
@@ -160,7 +121,7 @@ pub fn run<D: Disk, S: Source, K: Sink, C: Clock>(
         → Refuses tells old new result.status ⊎ Runs tells old new result.status }
 
     // Each status other than `Done` has its cause; `Memory` alone is free.
-    ensures built { IsBuilt result.status }
+    ensures ends { MayEnd result.status }
     ensures disk { result.status ≡ Status.Disk → Rose (D.faults disk) (D.faults result.disk)
         ⊎ Rose (D.fallible_views disk) (D.fallible_views result.disk) }
     ensures source { result.status ≡ Status.Source

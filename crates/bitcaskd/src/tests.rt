@@ -1,9 +1,11 @@
 //! The worked rows of `run`, over a disk and streams in memory.
-ghost use Rattle.std.specs.Prelude.{◌≤◌};
+ghost use Rattle.std.specs.Prelude.{◌≤◌, IfOk};
+ghost use Rattle.bk_load.specs.Tidying.{NoneLent};
+ghost use Rattle.bk_memdisk.specs.Disk.{told_by};
 
 use crate::run::{Ended, run};
 use bk_base::{Kind, Moment, Name, Status};
-use bk_memdisk::{ListClock, MemDisk, MemSink, MemSource};
+use bk_memdisk::{Choice, ListClock, MemDisk, MemSink, MemSource};
 use std::alloc::{AllocError, Global};
 use std::test::Fail;
 
@@ -62,7 +64,9 @@ fn pipe(
     disk: MemDisk,
     mut source: MemSource,
     mut sink: MemSink,
-) -> Result<Left, AllocError> {
+) -> Result<Left, AllocError>
+    requires { NoneLent (told_by disk).fronts }
+{
     let words = words(alloc)?;
     let mut clock = at_five(alloc)?;
     let Ended { disk, status } = run(alloc, &words, disk, &mut source, &mut sink, &mut clock);
@@ -82,7 +86,8 @@ fn piped(
     most: usize,
     sink_fails: Option<u64>,
 ) -> Result<Left, AllocError>
-    requires { 1 ≤ most }
+    requires some { 1 ≤ most }
+    requires none_lent { NoneLent (told_by disk).fronts }
 {
     let source = MemSource::new(input.to_vec(alloc)?, None, most);
     match MemSink::new(alloc, 1_000, sink_fails) {
@@ -115,11 +120,7 @@ const RECORD: [u8; 24] = [
 #[test]
 fn data_file(rt: HostRuntime) -> Result<(), Fail> {
     let left = answered(rt.alloc(), b"PUT 1 1\na1\n", 1)?;
-    let name = Name {
-        id: 1,
-        kind: Kind::Main,
-    };
-    let bytes = left.disk.bytes(name).ok_or("no file")?;
+    let bytes = left.disk.bytes(DATA_FILE).ok_or("no file")?;
     assert_eq!(rt; bytes, RECORD.as_slice());
     Ok(())
 }
@@ -168,5 +169,88 @@ fn failing_listing(rt: HostRuntime) -> Result<(), Fail> {
     assert!(rt; disk.fail(1, 0).is_ok());
     let left = piped(alloc, disk, GET, 1_000, None)?;
     assert!(rt; left.is(b"", Status::Disk));
+    Ok(())
+}
+
+const DATA_FILE: Name = Name {
+    id: 1,
+    kind: Kind::Main,
+};
+
+/// A disk with one file.
+fn with_file(alloc: Global, name: Name, bytes: &[u8]) -> Result<MemDisk, AllocError>
+    ensures { IfOk result (λ disk. NoneLent (told_by disk).fronts) }
+{
+    let mut disk = MemDisk::new(alloc);
+    match disk.place(name, bytes) {
+        Ok(()) => Ok(disk),
+        Err(_) => Err(AllocError),
+    }
+}
+
+/// The record of `b` with the value `2`, behind that of `a`.
+const SECOND: [u8; 24] = [
+    0x1f, 0x96, 0xff, 0xe2, 0, 0, 0, 5, 0, 1, 0, 0, 0, 1, 0, 0, 0, 0, 0, 0, 0, 2, b'b', b'2',
+];
+
+#[test]
+fn records_that_were_there(rt: HostRuntime) -> Result<(), Fail> {
+    let alloc = rt.alloc();
+    let mut bytes = RECORD.to_vec(alloc)?;
+    bytes.extend_from_slice(&SECOND)?;
+    let disk = with_file(alloc, DATA_FILE, &bytes)?;
+    let left = piped(
+        alloc,
+        disk,
+        b"GET 1\na\nGET 1\nb\nPUT 1 1\na3\n",
+        1_000,
+        None,
+    )?;
+    assert!(rt; left.is(b"VALUE 1\n1\nVALUE 1\n2\nOK 3\n", Status::Done));
+    Ok(())
+}
+
+#[test]
+fn failing_recovery(rt: HostRuntime) -> Result<(), Fail> {
+    let alloc = rt.alloc();
+    let mut disk = with_file(alloc, DATA_FILE, &RECORD)?;
+    assert!(rt; disk.fail_view(1).is_ok());
+    let left = piped(alloc, disk, GET, 1_000, None)?;
+    assert!(rt; left.is(b"", Status::Disk));
+    Ok(())
+}
+
+#[test]
+fn bad_settings(rt: HostRuntime) -> Result<(), Fail> {
+    let name = Name {
+        id: 0,
+        kind: Kind::Settings,
+    };
+    let disk = with_file(rt.alloc(), name, b"max_file = 100")?;
+    let left = piped(rt.alloc(), disk, GET, 1_000, None)?;
+    assert!(rt; left.is(b"", Status::Settings));
+    Ok(())
+}
+
+/// What a crash leaves after two puts that no sync closed: of the second record some bytes.
+fn after_a_crash(alloc: Global) -> Result<MemDisk, AllocError>
+    ensures { IfOk result (λ disk. NoneLent (told_by disk).fronts) }
+{
+    let input = b"PUT 1 1\na1\nPUT 1 1\nb2\n".to_vec(alloc)?;
+    let source = MemSource::new(input, Some(2), 1_000);
+    let sink = MemSink::new(alloc, 1_000, None).map_err(|_| AllocError)?;
+    let left = pipe(alloc, MemDisk::new(alloc), source, sink)?;
+    let choice = Choice {
+        keep: Some(30),
+        flips: Vec::new(alloc),
+    };
+    left.disk.crash(&choice).map_err(|_| AllocError)
+}
+
+#[test]
+fn a_run_after_a_crash(rt: HostRuntime) -> Result<(), Fail> {
+    let disk = after_a_crash(rt.alloc())?;
+    let left = piped(rt.alloc(), disk, b"GET 1\na\nGET 1\nb\n", 1_000, None)?;
+    assert!(rt; left.is(b"VALUE 1\n1\nNONE\n", Status::Done));
     Ok(())
 }

@@ -1,10 +1,53 @@
-use Rattle.std.proofs.Common.{inr, arith}
-use Rattle.bitcaskd.proofs.ClosingLaws.{from_before}
+use Rattle.std.proofs.Common.{inl, inr, refl}
+use Rattle.bk_base.specs.declared.statuses.Status.TheVariants.{Disk, Source, Sink}
+use Rattle.bk_load.specs.Courses.{Seen}
+use Rattle.bitcaskd.proofs.OpeningLaws.{caused, keeps_log, may_end, refused_ends, rose_in_run}
 use Rattle.bitcaskd.proofs.run.over_disk.Goals as goal
 
-pub returns-in-Nothing-clause-ran : goal.returns-in-Nothing-clause-ran
-returns-in-Nothing-clause-ran g c =
-    inr (from_before _ (g.D.Disk.told c.args.disk) (g.D.Disk.faults c.args.disk)
-    (g.D.Disk.fallible_views c.args.disk) (g.D.Disk.fallible_outs c.args.disk) _ _ c.over_empty.result.status
-    c.in-Nothing.ensures.told c.in-Nothing.ensures.later (omega (arith, c.in-Nothing.ensures.views))
-    (omega (arith, c.in-Nothing.ensures.outs)) c.over_empty.ensures.ran)
+pub returns-in-Ok-clause-ran : goal.returns-in-Ok-clause-ran
+returns-in-Ok-clause-ran g c =
+    let was : Seen = record {
+      told = g.D.Disk.told c.args.disk;
+      faults = g.D.Disk.faults c.args.disk;
+      views = g.D.Disk.fallible_views c.args.disk;
+      outs = g.D.Disk.fallible_outs c.args.disk;
+    } in
+    inr (c.over_store.ensures.ran was c.in-Ok.ensures.opens)
+
+pub returns-in-Ok-clause-ends : goal.returns-in-Ok-clause-ends
+returns-in-Ok-clause-ends g c = may_end c.over_store.result.status c.over_store.ensures.built
+
+pub returns-in-Ok-clause-disk : goal.returns-in-Ok-clause-disk
+returns-in-Ok-clause-disk g c = λ is.
+    let was : Seen = record {
+      told = g.D.Disk.told c.args.disk;
+      faults = g.D.Disk.faults c.args.disk;
+      views = g.D.Disk.fallible_views c.args.disk;
+      outs = g.D.Disk.fallible_outs c.args.disk;
+    } in
+    rose_in_run g.D.Disk.tells was c.in-Ok.store (g.D.Disk.faults c.over_store.result.disk)
+    (g.D.Disk.fallible_views c.over_store.result.disk) c.in-Ok.ensures.opens (c.over_store.ensures.disk is)
+
+pub returns-in-Err-clause-ran : goal.returns-in-Err-clause-ran
+returns-in-Err-clause-ran g c = inl (record {
+  is_refused = c.in-Err.ensures.refused;
+  keeps = λ t log sound. keeps_log (g.D.Disk.told c.args.disk) (g.D.Disk.told c.in-Err.disk) log
+      (c.in-Err.ensures.refused.came.goes t) (g.met.D.Disk.well c.in-Err.disk t) sound;
+  whole = refl;
+  taken = refl;
+  written = refl;
+  sink_faults = refl;
+  moments = refl;
+})
+
+pub returns-in-Err-clause-ends : goal.returns-in-Err-clause-ends
+returns-in-Err-clause-ends g c = refused_ends _ _ _ c.in-Err.status c.in-Err.ensures.refused
+
+pub returns-in-Err-clause-disk : goal.returns-in-Err-clause-disk
+returns-in-Err-clause-disk g c = λ is. caused _ _ _ c.in-Err.status Disk c.in-Err.ensures.refused is
+
+pub returns-in-Err-clause-source : goal.returns-in-Err-clause-source
+returns-in-Err-clause-source g c = λ is. absurd (caused _ _ _ c.in-Err.status Source c.in-Err.ensures.refused is)
+
+pub returns-in-Err-clause-sink : goal.returns-in-Err-clause-sink
+returns-in-Err-clause-sink g c = λ is. absurd (caused _ _ _ c.in-Err.status Sink c.in-Err.ensures.refused is)

@@ -6,10 +6,10 @@ use Rattle.bitcaskd.proofs.TalkingLaws.{nothing_yet, memory_ends}
 use Rattle.bitcaskd.proofs.talking.talk.Goals as goal
 
 pub returns-in_default-clause-stopped : goal.returns-in_default-clause-stopped
-returns-in_default-clause-stopped g c = λ o stands.
+returns-in_default-clause-stopped g c = λ o whole_tells stands.
     let stream : Stream = record { rest = []; offset = 0; most = 0; held = 0 } in
     memory_ends _ o _ _ stream [] (g.K.Sink.written c.args.sink.now) (g.K.Sink.faults c.args.sink.now) []
-    (nothing_yet _ o _ stream stands refl (omega arith))
+    (nothing_yet _ o _ stream whole_tells stands refl (omega arith))
     (inl (λ tells. sym (append-nil (g.K.Sink.written c.args.sink.now))))
 
 pub turns-init : goal.turns-init
@@ -23,10 +23,10 @@ turns-init g c = record {
   views = counts_still _ _ refl;
   took = omega arith;
   wrote = omega arith;
-  so_far = λ o stands. (
+  so_far = λ o whole_tells stands. (
     [],
     rw c.in-Ok.ensures.replies
-        (nothing_yet _ o _ c.in-Ok.desk.reader stands
+        (nothing_yet _ o _ c.in-Ok.desk.reader whole_tells stands
         (ap (λ (s : Stream). s.rest) c.in-Ok.ensures.reader)
         (ap (λ (s : Stream). taken s) c.in-Ok.ensures.reader)),
   );
@@ -39,12 +39,12 @@ turns-preserved g c = record {
   views = counts_then _ _ _ c.turns.invariant.views c.in-None.ensures.views;
   took = omega (arith, c.turns.invariant.took, c.in-None.ensures.took);
   wrote = omega (arith, c.turns.invariant.wrote, c.in-None.ensures.wrote);
-  so_far = λ o stands. let (turns, so) = c.turns.invariant.so_far o stands in c.in-None.ensures.turns o _ turns so;
+  so_far = λ o whole_tells stands. let (turns, so) = c.turns.invariant.so_far o whole_tells stands in c.in-None.ensures.turns o _ turns so;
 }
 
 pub returns-in-Some-clause-stopped : goal.returns-in-Some-clause-stopped
-returns-in-Some-clause-stopped g c = λ o stands.
-    let (turns, so) = c.turns.invariant.so_far o stands in c.in-Some.ensures.turns o _ turns so
+returns-in-Some-clause-stopped g c = λ o whole_tells stands.
+    let (turns, so) = c.turns.invariant.so_far o whole_tells stands in c.in-Some.ensures.turns o _ turns so
 
 pub returns-in-Some-clause-disk : goal.returns-in-Some-clause-disk
 returns-in-Some-clause-disk g c = λ is.

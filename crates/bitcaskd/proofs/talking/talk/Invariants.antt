@@ -15,7 +15,7 @@ invariant-turns g l = record {
   views : Counts false l.initial.store.files.fallible_views l.store.files.fallible_views;
   took : g.S.Source.faults l.initial.source ≤ g.S.Source.faults l.source;
   wrote : g.K.Sink.faults l.initial.sink ≤ g.K.Sink.faults l.sink;
-  so_far : (o : Opening) → (IsTrue g.D.Disk.tells → StandsFor l.initial.store o [] [])
+  so_far : (o : Opening) → (IsTrue o.whole → IsTrue g.D.Disk.tells) → (IsTrue o.whole → StandsFor l.initial.store o [] [])
       → (turns : List Exchange)
       × SoFar (telling g.D.Disk.tells g.S.Source.tells g.K.Sink.tells g.C.Clock.tells) o
       (scene_of (site_of l.initial.store (g.C.Clock.moments l.initial.clock))
