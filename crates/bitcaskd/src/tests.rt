@@ -5,8 +5,10 @@ ghost use Rattle.bk_memdisk.specs.Disk.{told_by};
 
 use crate::run::{Ended, run};
 use bk_base::{Kind, Moment, Name, Status};
+use bk_load::synced_lends_nothing;
 use bk_memdisk::{Choice, ListClock, MemDisk, MemSink, MemSource};
 use std::alloc::{AllocError, Global};
+use std::process::Abort;
 use std::test::Fail;
 
 /// What a run is given and what it is to write, and its status.
@@ -232,24 +234,29 @@ fn bad_settings(rt: HostRuntime) -> Result<(), Fail> {
     Ok(())
 }
 
-/// What a crash leaves after two puts that no sync closed: of the second record some bytes.
-fn after_a_crash(alloc: Global) -> Result<MemDisk, AllocError>
-    ensures { IfOk result (λ disk. NoneLent (told_by disk).fronts) }
-{
+/// What a run of two puts leaves that no sync closed.
+fn two_puts(alloc: Global) -> Result<MemDisk, AllocError> {
     let input = b"PUT 1 1\na1\nPUT 1 1\nb2\n".to_vec(alloc)?;
     let source = MemSource::new(input, Some(2), 1_000);
     let sink = MemSink::new(alloc, 1_000, None).map_err(|_| AllocError)?;
-    let left = pipe(alloc, MemDisk::new(alloc), source, sink)?;
+    Ok(pipe(alloc, MemDisk::new(alloc), source, sink)?.disk)
+}
+
+/// What a crash leaves of the disk: of the last record some bytes.
+fn crashed(rt: &impl Abort, alloc: Global, disk: MemDisk) -> MemDisk
+    ensures { NoneLent (told_by result).fronts }
+{
     let choice = Choice {
         keep: Some(30),
         flips: Vec::new(alloc),
     };
-    left.disk.crash(&choice).map_err(|_| AllocError)
+    synced_lends_nothing();
+    disk.crash(&choice).expect(rt, "memory")
 }
 
 #[test]
 fn a_run_after_a_crash(rt: HostRuntime) -> Result<(), Fail> {
-    let disk = after_a_crash(rt.alloc())?;
+    let disk = crashed(&rt, rt.alloc(), two_puts(rt.alloc())?);
     let left = piped(rt.alloc(), disk, b"GET 1\na\nGET 1\nb\n", 1_000, None)?;
     assert!(rt; left.is(b"VALUE 1\n1\nNONE\n", Status::Done));
     Ok(())
