@@ -30,7 +30,7 @@ kept-append : (s : State) (kept : ℕ) (es : List Entry) (e : Entry)
 kept-append s kept [] e = refl
 kept-append s kept (d ∷ es) e = kept-append (after s d) (kept_now d.call d.reply s kept) es e
 
-snapshot-append : (s : Snapshot) (h : List Step) (step : Step) → snapshot_after s (h ++ step ∷ []) ≡ step.snapshot
+pub snapshot-append : (s : Snapshot) (h : List Step) (step : Step) → snapshot_after s (h ++ step ∷ []) ≡ step.snapshot
 snapshot-append s [] step = refl
 snapshot-append s (first ∷ h) step = snapshot-append first.snapshot h step
 
@@ -60,7 +60,7 @@ content_is o h s e left is =
     ap (λ (t : State). content_at t (kept_of o (h ++ s ∷ [])) left) state
     ∙ ap (λ (k : ℕ). content_at (after (state_after o h) e) k left) kept
 
-counted_step : (f : Step → ℕ) (before middle now : ℕ) (h : List Step) (s : Step) → Counted false before (sum_by f h) middle
+pub counted_step : (f : Step → ℕ) (before middle now : ℕ) (h : List Step) (s : Step) → Counted false before (sum_by f h) middle
     → Counted false middle (f s) now → Counted false before (sum_by f (h ++ s ∷ [])) now
 counted_step f before middle now h s first then =
     let sum : sum_by f h + f s ≡ sum_by f (h ++ s ∷ []) = omega (arith, sum_by-append f h (s ∷ [])) in

@@ -1,0 +1,16 @@
+pub mod Following
+pub mod ActiveRows
+pub mod OneLine
+pub mod Events
+pub mod Writes
+pub mod Sizes
+pub mod Reading
+pub mod Texts
+pub mod FoldCalls
+pub mod FoldRows
+pub mod Endings
+pub mod Outboxes
+pub mod Inboxes
+pub mod Steps
+pub mod Ways
+pub mod Entering

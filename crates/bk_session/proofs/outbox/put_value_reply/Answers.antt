@@ -1,0 +1,15 @@
+use Rattle.std.proofs.Common.{◌≡◌, ◌-◌, arith}
+use Rattle.bk_session.proofs.Outboxes.{start_stays, value_reply}
+use Rattle.bk_session.proofs.outbox.put_value_reply.Goals as goal
+
+pub returns-clause-ok : goal.returns-clause-ok
+returns-clause-ok g c =
+    value_reply c.put_value_line.result g.V.View.tells c.args.loan c.args.text.now.items
+    c.write_value_header.new.out.items c.put_value_line.new.text.items
+    (c.size.result - c.value_at.result) (omega (arith, c.size.ensures, c.value_at.ensures.place))
+    c.in_ok-write_value_header.ensures.ok c.put_value_line.ensures.ok
+
+pub returns-clause-start : goal.returns-clause-start
+returns-clause-start g c =
+    start_stays c.args.text.now.items _ c.write_value_header.new.out.items c.put_value_line.new.text.items
+    c.in_ok-write_value_header.ensures.ok c.put_value_line.ensures.start

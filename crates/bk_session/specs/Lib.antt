@@ -1,0 +1,10 @@
+pub mod Following
+pub mod Outgoing
+pub mod Serving
+pub mod Crashes
+pub mod Replying
+pub mod Refusing
+pub mod Listing
+pub mod Sessions
+pub mod Progress
+pub mod Ending

@@ -1,0 +1,17 @@
+//! A session: requests are read from a source, served over a store, and their replies are written to a sink.
+#![tactic(auto)]
+
+mod gets;
+mod inbox;
+mod listings;
+mod outbox;
+mod puts;
+mod refusals;
+mod sending;
+mod serving;
+mod sessions;
+mod syncs;
+#[cfg(test)]
+mod tests;
+
+pub use sessions::session;
