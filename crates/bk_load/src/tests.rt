@@ -1,5 +1,7 @@
 //! Directories made by hand, and merges that were stopped anywhere and recovered, again and again.
-ghost use Rattle.std.specs.Prelude.{◌≤◌, ◌<◌, ◌^◌};
+ghost use Rattle.std.specs.Prelude.{◌≡◌, ◌≤◌, ◌<◌, ◌^◌};
+ghost use Rattle.bk_memdisk.specs.Disk.{told_by};
+ghost use Rattle.bk_load.specs.Tidying.{NoneLent};
 
 use crate::{LoadSettings, Loaded, OpenError, recover, settings, synced_lends_nothing};
 use bk_base::{FileId, Kind, Name, Seq};
@@ -21,6 +23,8 @@ enum Text {
     Records(&'static [Put]),
     // The first bytes of them, so many.
     First(usize, &'static [Put]),
+    // The records with one bit of this byte changed.
+    Changed(usize, &'static [Put]),
     // The hint of these puts, from the front of a file of which it covers so many bytes.
     Hint(u64, &'static [Put]),
     // A list of the inputs and the outputs of a merge.
@@ -96,7 +100,8 @@ fn hint(rt: &impl Abort, alloc: Global, length: u64, puts: &[Put]) -> Vec<u8> {
 fn list(rt: &impl Abort, alloc: Global, inputs: &[u32], outputs: &[u32]) -> Vec<u8> {
     let mut text = Vec::new(alloc);
     for ids in [inputs, outputs] {
-        append(rt, &mut text, &(ids.len() as u32).to_be_bytes());
+        let count = u32::try_from(ids.len()).expect(rt, "few");
+        append(rt, &mut text, &count.to_be_bytes());
         for id in ids {
             append(rt, &mut text, &id.to_be_bytes());
         }
@@ -113,6 +118,13 @@ fn bytes_of(rt: &impl Abort, alloc: Global, text: Text) -> Vec<u8> {
         Text::First(len, puts) => {
             let mut text = records(rt, alloc, puts);
             text.truncate(len);
+            text
+        }
+        Text::Changed(at, puts) => {
+            let mut text = records(rt, alloc, puts);
+            if let Some(byte) = text.get_mut(at) {
+                *byte ^= 1;
+            }
             text
         }
         Text::Hint(len, puts) => hint(rt, alloc, len, puts),
@@ -149,6 +161,26 @@ const WHOLE: Call = Call {
     view: 0,
 };
 
+// What a crash leaves of the disk. Nothing of it is lent.
+fn crashed(rt: &impl Abort, alloc: Global, disk: MemDisk) -> MemDisk
+    ensures { NoneLent (told_by result).fronts }
+{
+    let choice = Choice {
+        keep: Some(0),
+        flips: Vec::new(alloc),
+    };
+    synced_lends_nothing();
+    disk.crash(&choice).expect(rt, "memory")
+}
+
+// Chooses what fails.
+fn choose(rt: &impl Abort, disk: &mut MemDisk, call: Call)
+    ensures { told_by disk.new ≡ told_by disk.old }
+{
+    disk.fuse(call.calls, call.effect);
+    disk.fail_view(call.view).expect(rt, "memory");
+}
+
 // Recovers what a crash leaves of the disk.
 fn recovered(
     rt: &impl Abort,
@@ -156,14 +188,8 @@ fn recovered(
     disk: MemDisk,
     call: Call,
 ) -> (MemDisk, Result<Loaded, OpenError>) {
-    let choice = Choice {
-        keep: Some(0),
-        flips: Vec::new(alloc),
-    };
-    let mut disk = disk.crash(&choice).expect(rt, "memory");
-    disk.fuse(call.calls, call.effect);
-    disk.fail_view(call.view).expect(rt, "memory");
-    synced_lends_nothing();
+    let mut disk = crashed(rt, alloc, disk);
+    choose(rt, &mut disk, call);
     let result = recover(alloc, &mut disk);
     (disk, result)
 }
@@ -220,10 +246,10 @@ const OF_TORN: Found = Found {
 #[test]
 fn a_torn_file_ends_at_its_whole_records(rt: HostRuntime) {
     let (_, loaded) = opens(&rt, rt.alloc(), TORN, OF_TORN);
-    let row = loaded.rows[0];
+    let row = loaded.rows.first().expect(&rt, "a row");
     assert_eq!(rt; (row.len, row.total), (71, 48));
     assert_eq!(rt; (row.live, row.refs), (48, 2));
-    let torn = loaded.report.torn[0];
+    let torn = loaded.report.torn.first().expect(&rt, "torn");
     assert_eq!(rt; (torn.file, torn.at, torn.bytes), (FileId(1), 48, 23));
     assert_eq!(rt; (loaded.report.hinted, loaded.report.scanned), (0, 1));
 }
@@ -316,9 +342,11 @@ fn a_hint_is_taken_where_it_is_good(rt: HostRuntime) {
         let files = [(1, Kind::Main, Text::Records(TWO)), (1, Kind::Hint, *hint)];
         let (_, loaded) = opens(&rt, rt.alloc(), &files, *found);
         assert_eq!(rt; loaded.report.hints.len(), 1);
-        assert_eq!(rt; loaded.report.hints[0].verdict, *verdict);
+        let note = loaded.report.hints.first().expect(&rt, "a note");
+        assert_eq!(rt; note.verdict, *verdict);
         assert_eq!(rt; (loaded.report.hinted, loaded.report.scanned), *counts);
-        assert_eq!(rt; loaded.rows[0].total, 71);
+        let row = loaded.rows.first().expect(&rt, "a row");
+        assert_eq!(rt; row.total, 71);
     }
 }
 
@@ -340,6 +368,12 @@ const ODD: &[File] = &[
         Kind::Main,
         Text::First(47, &[(b'k', 9, Some(1)), (b'l', 10, Some(2))]),
     ),
+    // The second record has another checksum.
+    (
+        51,
+        Kind::Main,
+        Text::Changed(46, &[(b'm', 11, Some(1)), (b'n', 12, Some(2))]),
+    ),
     (4_294_967_294, Kind::Main, Text::Bytes(b"")),
     (60, Kind::Hint, Text::Hint(24, &[(b'h', 8, Some(1))])),
     // Two lists that name each other's files.
@@ -356,6 +390,7 @@ const OF_ODD: Found = Found {
         (b'b', 6, 4),
         (b'c', 7, 5),
         (b'k', 9, 50),
+        (b'm', 11, 51),
         (b'r', 22, 74),
     ],
     last: (22, 4_294_967_294),
@@ -376,11 +411,12 @@ fn odd_directories_open(rt: HostRuntime) {
     let (disk, result) = recovered(&rt, rt.alloc(), disk, WHOLE);
     let loaded = result.expect(&rt, "recovered");
     finds(&rt, rt.alloc(), &loaded, OF_ODD);
-    assert_eq!(rt; loaded.rows.len(), 28);
-    assert_eq!(rt; loaded.rows[0].total, 48);
+    assert_eq!(rt; loaded.rows.len(), 29);
+    let first = loaded.rows.first().expect(&rt, "a row");
+    assert_eq!(rt; first.total, 48);
     assert_eq!(rt; loaded.report.odd.len(), 0);
-    // 21 of the short ones, and 50.
-    assert_eq!(rt; loaded.report.torn.len(), 22);
+    // 21 of the short ones, 50 and 51.
+    assert_eq!(rt; loaded.report.torn.len(), 23);
     assert!(rt; !is_there(&disk, 60, Kind::Hint));
     assert!(rt; !is_there(&disk, 71, Kind::MainTemp));
     assert!(rt; !is_there(&disk, 72, Kind::MainTemp));
