@@ -238,3 +238,10 @@ listed_slots tells v o h who slot key value s x slots a low there is n within =
     (λ same. ap (λ (k : ℕ). is_some (slot_at v.keys.slots k)) (eqb-true n slot same) ∙ ap (λ (y : Option Slot). is_some y) there)
     ∙ sym (set_says v.keys.slots slot n (Some x) low)
     ∙ ap (λ (l : List (Option Slot)). is_some (slot_at l n)) (sym is)
+
+-- ---- what is known of a store
+
+-- What holds where all is known that the disk tells, and where nothing is, holds whatever is known.
+pub known_way : (known tells : Bool) (P : Bool → Type 0) → (IsTrue known → IsTrue tells) → P tells → P false → P known
+known_way true tells P sub told none = subst P (sub refl) told
+known_way false tells P sub told none = none

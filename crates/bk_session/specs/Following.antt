@@ -1,5 +1,5 @@
--- When a store follows a history: what it has in memory agrees with it over every disk, and where the disk
--- tells, all that it has stands for it.
+-- When a store follows a history: what it has in memory agrees with it, and where what it holds is known, all
+-- that it has stands for it. It may be known only where the disk tells.
 use Rattle.std.specs.Prelude.{◌≡◌, ℕ, ◌<◌, Bool, true, false, IsTrue, List, is_some, map}
 use Rattle.bk_base.specs.declared.histories.Opening.{Opening}
 use Rattle.bk_base.specs.declared.histories.Snapshot.{Snapshot}
@@ -20,8 +20,8 @@ use Rattle.bk_store.specs.Standing.{StandsFor}
 abbrev pub own_context : Opening → Context
 own_context o = record { who = 0; opening = o; spent = false }
 
--- What a history of the session records of the files. That a row is the active file's it says only where the
--- disk tells: otherwise nothing shows which one is.
+-- What a history of the session records of the files. That a row is the active file's it says only where what
+-- the store holds is known: otherwise nothing shows which one is.
 abbrev pub at_rest : Row → Row
 at_rest r = record r { state = Sealed }
 
@@ -30,16 +30,16 @@ snapshot_in true v = snapshot_of v
 snapshot_in false v = record (snapshot_of v) { rows = map at_rest v.files.catalog.rows }
 
 -- The last seq, the settings, the files, the open folds and the counts are those of the history.
-pub record Agrees (tells : Bool) (v : Shown) (o : Opening) (h : List Step) : Type 0 where
+pub record Agrees (known : Bool) (v : Shown) (o : Opening) (h : List Step) : Type 0 where
   pub seq : v.seq ≡ last_seq (log_of o h)
   pub settings : o.settings ≡ settings_of v.settings
   pub limit : v.files.catalog.max_file ≡ v.settings.max_file
-  pub snapshot : last_snapshot o h ≡ snapshot_in tells v
+  pub snapshot : last_snapshot o h ≡ snapshot_in known v
   pub slots : (n : ℕ) → n < MOST_FOLDS → is_open n (state_after o h) ≡ is_some (slot_at v.keys.slots n)
   pub counts : AreCounted v.files o h
 
--- An opening is whole only where the disk tells what it holds.
-pub record Follows (tells : Bool) (v : Shown) (o : Opening) (h : List Step) (tried : List Write) : Type 0 where
-  pub agrees : Agrees tells v o h
-  pub stands : IsTrue tells → StandsFor v o h tried
-  pub whole : o.whole ≡ true → IsTrue tells
+-- An opening is whole only where what the store holds is known.
+pub record Follows (known : Bool) (v : Shown) (o : Opening) (h : List Step) (tried : List Write) : Type 0 where
+  pub agrees : Agrees known v o h
+  pub stands : IsTrue known → StandsFor v o h tried
+  pub whole : o.whole ≡ true → IsTrue known

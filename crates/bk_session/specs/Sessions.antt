@@ -38,7 +38,7 @@ traffic old new output = record {
 
 -- A session was held on one thread, and its store followed the history to h2. A crash leaves at each moment
 -- what the exchanges that were done by then say.
-pub record IsHeld (disk : Bool) (tells : Telling) (most : ℕ) (old new : Sides) (end : SessionEnd)
+pub record IsHeld (known : Bool) (tells : Telling) (most : ℕ) (old new : Sides) (end : SessionEnd)
     (o : Opening) (h : List Step) (first : List Write) : Type 0 where
   pub h2 : List Step
   pub tried : List Write
@@ -46,11 +46,11 @@ pub record IsHeld (disk : Bool) (tells : Telling) (most : ℕ) (old new : Sides)
   pub session : Session (own_context o) tells most h h2 (traffic old new output) end
   pub one_thread : OneThread (own_context o) h2 first tried session.transcript
   pub wrote : IsTrue tells.sink → new.written ≡ old.written ++ output
-  pub follows : Follows disk new.store o h2 tried
-  pub crash : IsTrue disk → CrashesBetween old.store.files.told new.store.files.told o h first
+  pub follows : Follows known new.store o h2 tried
+  pub crash : IsTrue known → CrashesBetween old.store.files.told new.store.files.told o h first
       (exchanges session.transcript)
 
--- it is said of each history that the store followed
+-- It is said of each history that the store followed, with all that is known of what it holds.
 abbrev pub IsHeldFor : Bool → Telling → ℕ → Sides → Sides → SessionEnd → Type 0
-IsHeldFor disk tells most old new end = (o : Opening) (h : List Step) (first : List Write)
-    → Follows disk old.store o h first → IsHeld disk tells most old new end o h first
+IsHeldFor known tells most old new end = (o : Opening) (h : List Step) (first : List Write)
+    → Follows known old.store o h first → IsHeld known tells most old new end o h first

@@ -1,5 +1,5 @@
 //! GET.
-ghost use Rattle.std.specs.Prelude.{◌≡◌, ◌≤◌, IsTrue};
+ghost use Rattle.std.specs.Prelude.{◌≡◌, ◌≤◌, IsTrue, Bool};
 ghost use Rattle.bk_base.specs.declared.requests.Request.TheVariants.{Get};
 ghost use Rattle.bk_disk.specs.Causes.{Rose};
 ghost use Rattle.bk_laws.specs.Wire.{FitsKey};
@@ -24,7 +24,8 @@ pub(crate) fn get<D: Disk, K: Sink, C: Clock>(
     key: &Key,
 ) -> Onward
     requires key { FitsKey key.now }
-    ensures serves { Serves (tells_of D.tells K.tells C.tells) (Get key.now) result
+    ensures serves { (known : Bool) → (IsTrue known → IsTrue D.tells)
+        → Serves (tells_of known K.tells C.tells) (Get key.now) result
         (session_state store.old (C.moments clock.old) (outgoing (K.written sink.old) outbox.old))
         (session_state store.new (C.moments clock.new) (outgoing (K.written sink.new) outbox.new)) }
     ensures past { IsTrue D.tells → KeepsPast store.old.files.told store.new.files.told }

@@ -1,5 +1,5 @@
 //! FOLD and KEYS: a fold is opened, each pair that it gives is a row, and it is closed.
-ghost use Rattle.std.specs.Prelude.{◌≡◌, ◌≤◌, IsTrue};
+ghost use Rattle.std.specs.Prelude.{◌≡◌, ◌≤◌, IsTrue, Bool};
 ghost use Rattle.bk_disk.specs.Causes.{Rose};
 ghost use Rattle.bk_session.specs.Listing.{Closes, EndsAll, Gives, IsOurs, ShowsKey, ShowsPair, request_of};
 ghost use Rattle.bk_session.specs.Outgoing.{outgoing};
@@ -42,7 +42,8 @@ pub(crate) fn list<D: Disk, K: Sink, C: Clock>(
     outbox: &mut Outbox,
     listing: Listing,
 ) -> Onward
-    ensures serves { Serves (tells_of D.tells K.tells C.tells) (request_of listing) result
+    ensures serves { (known : Bool) → (IsTrue known → IsTrue D.tells)
+        → Serves (tells_of known K.tells C.tells) (request_of listing) result
         (session_state store.old (C.moments clock.old) (outgoing (K.written sink.old) outbox.old))
         (session_state store.new (C.moments clock.new) (outgoing (K.written sink.new) outbox.new)) }
     ensures past { IsTrue D.tells → KeepsPast store.old.files.told store.new.files.told }
@@ -65,7 +66,8 @@ fn list_fold<D: Disk, K: Sink>(
     listing: Listing,
 ) -> Onward
     requires ours { IsOurs slot store.old }
-    ensures ends { EndsAll D.tells K.tells (request_of listing) result slot
+    ensures ends { (known : Bool) → (IsTrue known → IsTrue D.tells)
+        → EndsAll known K.tells (request_of listing) result slot
         store.old (outgoing (K.written sink.old) outbox.old)
         store.new (outgoing (K.written sink.new) outbox.new) }
     ensures past { IsTrue D.tells → KeepsPast store.old.files.told store.new.files.told }
@@ -97,7 +99,8 @@ fn list_fold<D: Disk, K: Sink>(
 /// Closes the fold in this slot.
 fn close_fold<D: Disk>(store: &mut Store<D>, slot: u8)
     requires ours { IsOurs slot store.old }
-    ensures closes { Closes D.tells slot store.old store.new }
+    ensures closes { (known : Bool) → (IsTrue known → IsTrue D.tells)
+        → Closes known slot store.old store.new }
     ensures past { IsTrue D.tells → KeepsPast store.old.files.told store.new.files.told }
 {
     let _ = store.fold_close(0, slot);
@@ -112,7 +115,8 @@ fn next_row<D: Disk, K: Sink>(
     listing: Listing,
 ) -> Given
     requires ours { IsOurs slot store.old }
-    ensures gives { Gives result D.tells K.tells (request_of listing) slot
+    ensures gives { (known : Bool) → (IsTrue known → IsTrue D.tells)
+        → Gives result known K.tells (request_of listing) slot
         store.old (outgoing (K.written sink.old) outbox.old)
         store.new (outgoing (K.written sink.new) outbox.new) }
     ensures ours { IsOurs slot store.new }

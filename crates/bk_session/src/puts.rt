@@ -1,5 +1,5 @@
 //! PUT and DEL.
-ghost use Rattle.std.specs.Prelude.{◌≡◌, ◌≤◌, Some, IsTrue};
+ghost use Rattle.std.specs.Prelude.{◌≡◌, ◌≤◌, Some, IsTrue, Bool};
 ghost use Rattle.bk_base.specs.declared.requests.Request.TheVariants.{Delete, Put};
 ghost use Rattle.bk_disk.specs.Causes.{Rose};
 ghost use Rattle.bk_laws.specs.Wire.{FitsKey, FitsValue};
@@ -27,7 +27,8 @@ pub(crate) fn put<D: Disk, K: Sink, C: Clock>(
 ) -> Onward
     requires key { FitsKey key }
     requires value { FitsValue value }
-    ensures serves { Serves (tells_of D.tells K.tells C.tells) (Put key value) result
+    ensures serves { (known : Bool) → (IsTrue known → IsTrue D.tells)
+        → Serves (tells_of known K.tells C.tells) (Put key value) result
         (session_state store.old (C.moments clock.old) (outgoing (K.written sink.old) outbox.old))
         (session_state store.new (C.moments clock.new) (outgoing (K.written sink.new) outbox.new)) }
     ensures past { IsTrue D.tells → KeepsPast store.old.files.told store.new.files.told }
@@ -41,7 +42,8 @@ pub(crate) fn put<D: Disk, K: Sink, C: Clock>(
 
 /// Puts a value at a moment.
 fn put_at<D: Disk>(store: &mut Store<D>, key: Key, value: Value, now: Moment) -> Reply
-    ensures replies { RepliesOnce D.tells (Put key value) (Some now) result store.old store.new }
+    ensures replies { (known : Bool) → (IsTrue known → IsTrue D.tells)
+        → RepliesOnce known (Put key value) (Some now) result store.old store.new }
     ensures past { IsTrue D.tells → KeepsPast store.old.files.told store.new.files.told }
 {
     match store.put(Prepared { key, value }, now) {
@@ -59,7 +61,8 @@ pub(crate) fn delete<D: Disk, K: Sink, C: Clock>(
     key: &Key,
 ) -> Onward
     requires key { FitsKey key.now }
-    ensures serves { Serves (tells_of D.tells K.tells C.tells) (Delete key.now) result
+    ensures serves { (known : Bool) → (IsTrue known → IsTrue D.tells)
+        → Serves (tells_of known K.tells C.tells) (Delete key.now) result
         (session_state store.old (C.moments clock.old) (outgoing (K.written sink.old) outbox.old))
         (session_state store.new (C.moments clock.new) (outgoing (K.written sink.new) outbox.new)) }
     ensures past { IsTrue D.tells → KeepsPast store.old.files.told store.new.files.told }
@@ -73,7 +76,8 @@ pub(crate) fn delete<D: Disk, K: Sink, C: Clock>(
 
 /// Deletes a key at a moment.
 fn delete_at<D: Disk>(store: &mut Store<D>, key: &Key, now: Moment) -> Reply
-    ensures replies { RepliesOnce D.tells (Delete key.now) (Some now) result store.old store.new }
+    ensures replies { (known : Bool) → (IsTrue known → IsTrue D.tells)
+        → RepliesOnce known (Delete key.now) (Some now) result store.old store.new }
     ensures past { IsTrue D.tells → KeepsPast store.old.files.told store.new.files.told }
 {
     match store.delete(key, now) {

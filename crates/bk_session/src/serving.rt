@@ -1,5 +1,5 @@
 //! One request: the clock is asked, then the store, and the reply is gathered.
-ghost use Rattle.std.specs.Prelude.{◌≡◌, ◌≤◌, IsTrue};
+ghost use Rattle.std.specs.Prelude.{◌≡◌, ◌≤◌, IsTrue, Bool};
 ghost use Rattle.bk_disk.specs.Causes.{Rose};
 ghost use Rattle.bk_laws.specs.Wire.{Fits};
 ghost use Rattle.bk_session.specs.Outgoing.{outgoing};
@@ -37,7 +37,8 @@ pub(crate) fn serve<D: Disk, K: Sink, C: Clock>(
     request: Request,
 ) -> Onward
     requires fits { Fits request }
-    ensures serves { Serves (tells_of D.tells K.tells C.tells) request result
+    ensures serves { (known : Bool) → (IsTrue known → IsTrue D.tells)
+        → Serves (tells_of known K.tells C.tells) request result
         (session_state store.old (C.moments clock.old) (outgoing (K.written sink.old) outbox.old))
         (session_state store.new (C.moments clock.new) (outgoing (K.written sink.new) outbox.new)) }
     ensures past { IsTrue D.tells → KeepsPast store.old.files.told store.new.files.told }

@@ -22,6 +22,7 @@ use std::alloc::Global;
 
 /// Holds a session with the client behind a source and a sink, and says how it ended. It takes at most
 /// `most` bytes. The replies are written before it reads on, so that a client that waits gets its reply.
+/// What the store holds may be known only where the disk tells.
 pub fn session<D: Disk, S: Source, K: Sink, C: Clock>(
     alloc: Global,
     store: &mut Store<D>,
@@ -30,7 +31,8 @@ pub fn session<D: Disk, S: Source, K: Sink, C: Clock>(
     clock: &mut C,
     most: u64,
 ) -> SessionEnd
-    ensures held { IsHeldFor D.tells (telling S.tells K.tells C.tells) most
+    ensures held { (known : Bool) → (IsTrue known → IsTrue D.tells)
+        → IsHeldFor known (telling S.tells K.tells C.tells) most
         (sides_of store.old (drop (S.taken source.old) (S.whole source.old)) (K.written sink.old)
         (C.moments clock.old))
         (sides_of store.new (drop (S.taken source.new) (S.whole source.new)) (K.written sink.new)
@@ -63,7 +65,8 @@ fn step<D: Disk, S: Source, K: Sink, C: Clock>(
     inbox: &mut Inbox,
     outbox: &mut Outbox,
 ) -> Option<SessionEnd>
-    ensures goes { Goes result D.tells (telling S.tells K.tells C.tells)
+    ensures goes { (known : Bool) → (IsTrue known → IsTrue D.tells)
+        → Goes result known (telling S.tells K.tells C.tells)
         (sides_of store.old (drop (S.taken source.old) (S.whole source.old)) (K.written sink.old)
         (C.moments clock.old)) inbox.old outbox.old
         (sides_of store.new (drop (S.taken source.new) (S.whole source.new)) (K.written sink.new)

@@ -23,8 +23,9 @@ pub(crate) fn sync<D: Disk, K: Sink>(
     sink: &mut K,
     outbox: &mut Outbox,
 ) -> Onward
-    ensures serves { (ticks : Bool) (moments : List Moment)
-        → Serves (tells_of D.tells K.tells ticks) Sync result
+    ensures serves { (known : Bool) → (IsTrue known → IsTrue D.tells)
+        → (ticks : Bool) (moments : List Moment)
+        → Serves (tells_of known K.tells ticks) Sync result
         (session_state store.old moments (outgoing (K.written sink.old) outbox.old))
         (session_state store.new moments (outgoing (K.written sink.new) outbox.new)) }
     ensures past { IsTrue D.tells → KeepsPast store.old.files.told store.new.files.told }
@@ -37,7 +38,8 @@ pub(crate) fn sync<D: Disk, K: Sink>(
 
 /// Syncs all writes.
 fn sync_all<D: Disk>(store: &mut Store<D>) -> Reply
-    ensures replies { RepliesOnce D.tells Sync None result store.old store.new }
+    ensures replies { (known : Bool) → (IsTrue known → IsTrue D.tells)
+        → RepliesOnce known Sync None result store.old store.new }
     ensures past { IsTrue D.tells → KeepsPast store.old.files.told store.new.files.told }
 {
     match store.sync() {
@@ -52,8 +54,9 @@ pub(crate) fn stat<D: Disk, K: Sink>(
     sink: &mut K,
     outbox: &mut Outbox,
 ) -> Onward
-    ensures serves { (ticks : Bool) (moments : List Moment)
-        → Serves (tells_of D.tells K.tells ticks) stat_request result
+    ensures serves { (known : Bool) → (IsTrue known → IsTrue D.tells)
+        → (ticks : Bool) (moments : List Moment)
+        → Serves (tells_of known K.tells ticks) stat_request result
         (session_state store.old moments (outgoing (K.written sink.old) outbox.old))
         (session_state store.new moments (outgoing (K.written sink.new) outbox.new)) }
     ensures past { IsTrue D.tells → KeepsPast store.old.files.told store.new.files.told }
@@ -66,7 +69,8 @@ pub(crate) fn stat<D: Disk, K: Sink>(
 
 /// Counts what the store has.
 fn count<D: Disk>(store: &mut Store<D>) -> Reply
-    ensures replies { RepliesOnce D.tells stat_request None result store.old store.new }
+    ensures replies { (known : Bool) → (IsTrue known → IsTrue D.tells)
+        → RepliesOnce known stat_request None result store.old store.new }
     ensures past { IsTrue D.tells → KeepsPast store.old.files.told store.new.files.told }
 {
     let stat = store.stat();

@@ -6,10 +6,12 @@ use Rattle.bk_session.proofs.OneLine.{served_once}
 use Rattle.bk_session.proofs.puts.delete.Goals as goal
 
 pub returns-clause-serves : goal.returns-clause-serves
-returns-clause-serves g c =
-    served_once (tells_of g.D.Disk.tells g.K.Sink.tells g.C.Clock.tells) (Delete c.args.key.now) (Some c.now-now.result)
+returns-clause-serves g c = λ known sub.
+    served_once (tells_of known g.K.Sink.tells g.C.Clock.tells) (Delete c.args.key.now) (Some c.now-now.result)
     c.delete_at-reply.result c.send.result
-    (session_state c.args.store.now (g.C.Clock.moments c.args.clock.now) (outgoing (g.K.Sink.written c.args.sink.now) c.args.outbox.now))
-    (session_state c.delete_at-reply.new.store (g.C.Clock.moments c.now-now.new.self) (outgoing (g.K.Sink.written c.send.new.sink) c.send.new.outbox))
+    (session_state c.args.store.now (g.C.Clock.moments c.args.clock.now) (outgoing (g.K.Sink.written
+    c.args.sink.now) c.args.outbox.now))
+    (session_state c.delete_at-reply.new.store (g.C.Clock.moments c.now-now.new.self) (outgoing
+    (g.K.Sink.written c.send.new.sink) c.send.new.outbox))
     c.requires.key refl refl refl (λ tell. (c.now-now.ensures.moment tell, c.now-now.ensures.later tell))
-    c.delete_at-reply.ensures.replies c.send.ensures.within c.send.ensures.sent
+    (c.delete_at-reply.ensures.replies known sub) c.send.ensures.within c.send.ensures.sent

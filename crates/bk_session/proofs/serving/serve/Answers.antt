@@ -5,9 +5,9 @@ use Rattle.bk_session.proofs.OneLine.{quit_served}
 use Rattle.bk_session.proofs.serving.serve.Goals as goal
 
 pub returns-in-Quit-clause-serves : goal.returns-in-Quit-clause-serves
-returns-in-Quit-clause-serves g c =
+returns-in-Quit-clause-serves g c = λ known sub.
     rw c.in-Quit.is
-    (quit_served (tells_of g.D.Disk.tells g.K.Sink.tells g.C.Clock.tells) c.quit.result
+    (quit_served (tells_of known g.K.Sink.tells g.C.Clock.tells) c.quit.result
     (session_state c.args.store.now (g.C.Clock.moments c.args.clock.now)
     (outgoing (g.K.Sink.written c.args.sink.now) c.args.outbox.now))
     (session_state c.args.store.now (g.C.Clock.moments c.args.clock.now)

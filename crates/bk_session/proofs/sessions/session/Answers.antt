@@ -5,7 +5,7 @@ use Rattle.bk_store.proofs.Pasts.{past_same, past_then}
 use Rattle.bk_wire.specs.Stream.{Stream}
 
 pub returns-in_default-clause-held : goal.returns-in_default-clause-held
-returns-in_default-clause-held g c = λ o h first follows. no_inbox _ _ _ _ o h first follows
+returns-in_default-clause-held g c = λ known sub o h first follows. no_inbox known _ _ _ o h first follows
 
 pub requests-init : goal.requests-init
 requests-init g c = record {
@@ -14,8 +14,8 @@ requests-init g c = record {
   whole = λ t. refl;
   took = omega arith;
   wrote = omega arith;
-  come = λ o h first follows. rw c.new-outbox.ensures
-      (nothing_come _ _ _ c.in-Ok.inbox o h first (ap (λ (s : Stream). s.rest) c.in-Ok.ensures)
+  come = λ known sub o h first follows. rw c.new-outbox.ensures
+      (nothing_come known _ _ c.in-Ok.inbox o h first (ap (λ (s : Stream). s.rest) c.in-Ok.ensures)
       (ap (λ (s : Stream). s.offset) c.in-Ok.ensures) follows);
 }
 
@@ -26,10 +26,11 @@ requests-preserved g c = record {
   whole = λ t. c.step.ensures.whole t ∙ c.requests.invariant.whole t;
   took = omega (arith, c.requests.invariant.took, c.step.ensures.took);
   wrote = omega (arith, c.requests.invariant.wrote, c.step.ensures.wrote);
-  come = λ o h first follows. c.in-None.ensures.goes _ o h first (c.requests.invariant.come o h first follows);
+  come = λ known sub o h first follows. c.in-None.ensures.goes known sub _ o h first
+      (c.requests.invariant.come known sub o h first follows);
 }
 
 pub returns-in-Some-clause-held : goal.returns-in-Some-clause-held
-returns-in-Some-clause-held g c = λ o h first follows.
+returns-in-Some-clause-held g c = λ known sub o h first follows.
     rw (sym c.requests.invariant.most)
-    (c.in-Some.ensures.goes _ o h first (c.requests.invariant.come o h first follows))
+    (c.in-Some.ensures.goes known sub _ o h first (c.requests.invariant.come known sub o h first follows))

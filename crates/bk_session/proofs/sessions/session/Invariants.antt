@@ -1,4 +1,4 @@
-use Rattle.std.proofs.Common.{◌≡◌, ◌≤◌, List, IsTrue, drop}
+use Rattle.std.proofs.Common.{Bool, ◌≡◌, ◌≤◌, List, IsTrue, drop}
 use Rattle.bk_base.specs.declared.histories.Opening.{Opening}
 use Rattle.bk_base.specs.declared.histories.Step.{Step}
 use Rattle.bk_base.specs.declared.writes.Write.{Write}
@@ -15,8 +15,9 @@ invariant-requests g l = record {
   whole : IsTrue g.S.Source.tells → g.S.Source.whole l.source ≡ g.S.Source.whole l.initial.source;
   took : g.S.Source.faults l.initial.source ≤ g.S.Source.faults l.source;
   wrote : g.K.Sink.faults l.initial.sink ≤ g.K.Sink.faults l.sink;
-  come : (o : Opening) (h : List Step) (first : List Write) → Follows g.D.Disk.tells l.initial.store o h first
-      → HasCome g.D.Disk.tells (telling g.S.Source.tells g.K.Sink.tells g.C.Clock.tells)
+  come : (known : Bool) → (IsTrue known → IsTrue g.D.Disk.tells) → (o : Opening) (h : List Step)
+      (first : List Write) → Follows known l.initial.store o h first
+      → HasCome known (telling g.S.Source.tells g.K.Sink.tells g.C.Clock.tells)
       (sides_of l.initial.store (drop (g.S.Source.taken l.initial.source) (g.S.Source.whole l.initial.source))
       (g.K.Sink.written l.initial.sink) (g.C.Clock.moments l.initial.clock))
       (sides_of l.store (drop (g.S.Source.taken l.source) (g.S.Source.whole l.source))
