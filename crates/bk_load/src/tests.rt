@@ -254,6 +254,30 @@ fn a_torn_file_ends_at_its_whole_records(rt: HostRuntime) {
     assert_eq!(rt; (loaded.report.hinted, loaded.report.scanned), (0, 1));
 }
 
+const CHANGED: &[File] = &[(
+    1,
+    Kind::Main,
+    Text::Changed(
+        47,
+        &[(b'x', 1, Some(1)), (b'y', 2, Some(2)), (b'z', 3, Some(3))],
+    ),
+)];
+
+const OF_CHANGED: Found = Found {
+    map: &[(b'x', 1, 1)],
+    last: (1, 1),
+};
+
+// A scan ends at a record that another checksum belongs to, though one stands behind it.
+#[test]
+fn a_changed_record_ends_its_file(rt: HostRuntime) {
+    let (_, loaded) = opens(&rt, rt.alloc(), CHANGED, OF_CHANGED);
+    let row = loaded.rows.first().expect(&rt, "a row");
+    assert_eq!(rt; (row.len, row.total, row.live), (72, 24, 24));
+    let torn = loaded.report.torn.first().expect(&rt, "torn");
+    assert_eq!(rt; (torn.file, torn.at, torn.bytes), (FileId(1), 24, 48));
+}
+
 // The hint of file 1, what it is, how many files have a Good one and how many were scanned, and what is
 // found.
 type Hinted = (Text, Verdict, (u32, u32), Found);
