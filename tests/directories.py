@@ -14,7 +14,6 @@ HINT_HEADER = struct.Struct(">IHIQQI")  # moment, length of the key, of the valu
 TOMBSTONE = 4_294_967_295  # in the place of a value's length
 LARGEST_ID = 4_294_967_294
 LAST_SEQ = (1 << 63) - 1
-DAMAGED = 8  # the status of a run that met a damaged record
 KINDS = ("data", "temp", "hint", "htmp", "swap", "stmp")
 
 
@@ -200,8 +199,4 @@ def reply_to_get(it, key):
 
 def ended_by_gets(it, keys):
     """The status and the output of a run that asks for each key of an opened directory."""
-    replies = [reply_to_get(it, key) for key in keys]
-    for number, reply in enumerate(replies):
-        if reply.startswith(b"DAMAGED"):
-            return DAMAGED, b"".join(replies[:number])
-    return 0, b"".join(replies)
+    return 0, b"".join(reply_to_get(it, key) for key in keys)

@@ -117,6 +117,16 @@ class Client:
             taken += piece
         return taken
 
+    def receive_reply(self):
+        """Reads one reply to a PUT or a GET, or a first part of one where the output ends."""
+        reply = b""
+        while not reply.endswith(b"\n"):
+            byte = self.receive(1)
+            reply += byte
+            if not byte:
+                return reply
+        return reply + self.receive(int(reply[6:]) + 1) if reply.startswith(b"VALUE ") else reply
+
     def finish(self, given=b""):
         """Sends the last bytes and ends the input. Gives what a run to the end gives."""
         self.send(given)

@@ -151,7 +151,7 @@ class Permissions(StoreTest):
     def test_a_folder_that_may_not_be_written_and_has_a_lock_file(self):
         folder = self.made("read-only", lock=0o600)
         folder.chmod(0o500)
-        self.opened(folder, 3, b"", "disk")
+        self.opened(folder, 0, b"DISK\n")
         self.assertEqual([path.name for path in folder.iterdir()], [LOCK_FILE])
 
     def test_a_file_system_that_may_not_be_written(self):
@@ -197,12 +197,12 @@ class Limits(StoreTest):
             resource.setrlimit(resource.RLIMIT_FSIZE, (44, 44))
         since = int(time.time())
         ended = self.pipe(put(b"a", b"1") + put(b"b", b"2") + get(b"a"), preexec_fn=ignored)
-        self.assert_ended(ended, 3, numbered(1), "disk")
-        first, second = self.files()[DATA_FILE][:24], self.files()[DATA_FILE][24:]
-        moments = [int.from_bytes(text[4:8], "big") for text in (first, second)]
-        self.assertTrue(since <= moments[0] <= moments[1] <= time.time())
-        self.assertEqual(first, record(moments[0], 1, b"a", b"1"))
-        self.assertEqual(second, record(moments[1], 2, b"b", b"2")[:20])
+        self.assert_ended(ended, 0, numbered(1) + b"DISK\n" + found(b"1"))
+        # The sync at the end has cut off what the append left.
+        text = self.files()[DATA_FILE]
+        moment = int.from_bytes(text[4:8], "big")
+        self.assertTrue(since <= moment <= time.time())
+        self.assertEqual(text, record(moment, 1, b"a", b"1"))
 
     def test_a_size_limit_ends_the_program_by_its_signal(self):
         ended = self.pipe(put(b"a", b"1") + put(b"b", b"2"), preexec_fn=limited(resource.RLIMIT_FSIZE, 24))

@@ -1,14 +1,16 @@
 """Each call of the system fails once, at each place of a run where it is made, and the run keeps its promises.
 
-An interrupted call, or one that does a part, changes nothing. Any other error ends the run with the status of its
-cause, after replies that are a first part of the right ones; the files hold the records of the puts that were
-answered, and at most a first part of the next.
+An interrupted call, or one that does a part, changes nothing. Any other error of a file refuses one request, by a line,
+and the run goes on; one of a stream, of the opening or of the last sync ends it with the status of its cause. All other
+replies are right, and the files hold the records of the puts that were answered, and at most a first part of one that
+was refused since.
 """
 
 import random
 import re
 import subprocess
 import time
+import typing
 import unittest
 
 from support import LOCK_FILE, QUARTER, Client, fault_of_folder, found, get, numbered, parsed, put, run
@@ -28,50 +30,73 @@ MOST_CALLS = 100  # of one kind in a run
 LARGEST_KEPT = 1_000_000  # bytes of a file that stands until its test ends
 
 
+REFUSED = (b"DISK\n", b"READ\n")
+
+
 class Talk:
-    """Requests, each with its reply, and the puts among them."""
+    """Puts and gets, and what a run that refuses some of them is to reply to the others."""
 
     def __init__(self):
-        self.parts, self.writes, self.held = [], [], {}
+        self.requests = []
 
     def put(self, key, value):
-        self.writes.append((key, value))
-        self.held[key] = value
-        self.parts.append((put(key, value), numbered(len(self.writes))))
+        self.requests.append((put(key, value), key, value))
 
     def get(self, key):
-        self.parts.append((get(key), found(self.held[key]) if key in self.held else b"NONE\n"))
+        self.requests.append((get(key), key, None))
 
     @property
-    def replies(self):
-        return b"".join(reply for _, reply in self.parts)
+    def puts(self):
+        return [(key, value) for _, key, value in self.requests if value is not None]
 
-    def acknowledged(self, output):
-        """How many puts these bytes of replies answer."""
-        count = end = 0
-        for request, reply in self.parts:
-            end += len(reply)
-            if end > len(output):
-                break
-            count += request.startswith(b"PUT")
-        return count
+    @property
+    def text(self):
+        return b"".join(text for text, _, _ in self.requests)
+
+    def told(self, output):
+        """What this output tells, as `Told`; its `fault` says where it is another than it may be."""
+        held, it = {}, Told([], None, 0, 0, None)
+        for _, key, value in self.requests:
+            right = (numbered(len(it.writes) + 1) if value is not None
+                     else found(held[key]) if key in held else b"NONE\n")
+            reply = next((one for one in (right, *REFUSED) if output.startswith(one)), None)
+            if reply is None:
+                is_part = any(one.startswith(output) for one in (right, *REFUSED))
+                return it._replace(fault=None if is_part else "the replies are other ones", next=(key, value))
+            output, it = output[len(reply):], it._replace(replies=it.replies + 1)
+            if reply != right:
+                it = it._replace(refused=it.refused + 1, next=(key, value) if value is not None else it.next)
+            elif value is not None:
+                held[key] = value
+                it = it._replace(writes=[*it.writes, (key, value)], next=None)
+        return it._replace(fault="more than all replies" if output else None)
 
     def hold(self, trace):
         """Waits for each reply before the next request. Gives what a run to the end gives."""
         with Client("pipe", str(trace.folder), **trace.options) as client:
             output = b""
-            for request, reply in self.parts:
+            for request, _, _ in self.requests:
                 client.send(request)
-                piece = client.receive(len(reply))
-                output += piece
-                if len(piece) < len(reply):
+                reply = client.receive_reply()
+                output += reply
+                if not reply.endswith(b"\n"):
                     break
             ended = client.finish()
         return subprocess.CompletedProcess(ended.args, ended.returncode, output + ended.stdout, ended.stderr)
 
     def hold_at_once(self, trace):
         """Sends the requests without waiting."""
-        return run("pipe", str(trace.folder), given=b"".join(request for request, _ in self.parts), **trace.options)
+        return run("pipe", str(trace.folder), given=self.text, **trace.options)
+
+
+class Told(typing.NamedTuple):
+    """What the replies of a run tell."""
+
+    writes: list  # the puts that were answered OK
+    next: tuple  # the put since, or None, that was refused or not answered: a first part of it may be there
+    replies: int
+    refused: int
+    fault: str  # what is wrong with the replies, or None
 
 
 def small_talk():
@@ -93,18 +118,19 @@ def large_talk():
     return talk
 
 
-def ends_of(call):
-    """The status for a call that failed, and the words for it on standard error, by the README's table."""
+def ends_of(call, served):
+    """The statuses that a run may have for this call that failed, and the words for it on standard error, by the
+    README's table. Once the store is opened a failing file refuses a request, or the last sync."""
     if call.name == "stdin":
-        return 4, ("source",)
+        return (4,), ("source",)
     if call.name == "stdout":
-        return 5, ("sink",)
+        return (5,), ("sink",)
     if call.name == LOCK_FILE:
-        return 3, ("directory",)
-    if call.name == ".":
-        # `directory` for the first opening, and `disk` for a listing or a sync.
-        return 3, ("directory", "disk")
-    return 3, ("disk",)
+        return (3,), ("directory",)
+    if call.name == "." and not served:
+        # `directory` for the first opening, and `disk` for a listing.
+        return (3,), ("directory", "disk")
+    return (0, 3), ("disk",)
 
 
 def is_not_retried(call):
@@ -113,40 +139,52 @@ def is_not_retried(call):
     return call.fault == "EINTR" and call.kind == "getdents"
 
 
-def fault_of_ended(talk, ended, errors):
+def fault_of_ended(talk, told, ended, errors):
     """What is wrong with the status, the words and the replies of a run with these errors, or None.
 
-    The first error decides. So after a sync that failed it makes no difference whether the next sync of that file
-    would fail too.
+    A failing file refuses a request; an error of another cause ends the run. Where the last sync fails too, the
+    status is the disk's.
     """
-    if not talk.replies.startswith(ended.stdout):
-        return "the replies are other ones"
+    if told.fault:
+        return told.fault
     if not errors:
-        if (ended.returncode, ended.stderr, ended.stdout) != (0, b"", talk.replies):
+        if (ended.returncode, ended.stderr, told.replies, told.refused) != (0, b"", len(talk.requests), 0):
             return f"status {ended.returncode} and {ended.stderr} after {len(ended.stdout)} bytes of replies"
         return None
-    status, words = ends_of(errors[0])
-    told = re.fullmatch(rb"bitcaskd: ([a-z]+)(: [^\n]+)?\n", ended.stderr)
-    if ended.returncode != status or not told or told[1].decode() not in words:
-        return f"status {ended.returncode} and {ended.stderr}, and not {status} with one of {words}"
+    # A sync that failed makes each later one of that file or directory fail.
+    if told.refused > len(errors) and not any(call.kind == "fsync" for call in errors):
+        return f"{told.refused} requests were refused for {len(errors)} errors"
+    ends = [ends_of(call, told.replies) for call in errors]
+    statuses = {status for some, _ in ends for status in some}
+    words = {word for _, some in ends for word in some}
+    if ended.returncode == 0:
+        whole = ended.stderr == b"" and told.replies == len(talk.requests)
+        return None if whole and 0 in statuses else f"status 0 and {ended.stderr} after {told.replies} replies"
+    said = re.fullmatch(rb"bitcaskd: ([a-z]+)(: [^\n]+)?\n", ended.stderr)
+    if ended.returncode not in statuses or not said or said[1].decode() not in words:
+        return f"status {ended.returncode} and {ended.stderr}, and not one of {statuses} with one of {words}"
     return None
 
 
 class Faults(TracedTest):
+    cuts = 0  # of data files, in the runs so far
+
     def hold(self, talk, faults, at_once=False):
         """Holds the talk in a new folder. Gives the calls that went wrong, and what is wrong with the run, or None."""
         trace, since = self.trace(faults), time.time()
         ended = talk.hold_at_once(trace) if at_once else talk.hold(trace)
         calls = trace.calls()
+        self.cuts += sum(call.kind == "ftruncate" for call in calls)
         failed = [call for call in calls if call.fault]
         errors = [call for call in failed if call.fault in ("EIO", "ENOSPC")]
         if ended.returncode and not errors:
             errors = list(filter(is_not_retried, failed))
-        acknowledged = talk.acknowledged(ended.stdout)
+        told = talk.told(ended.stdout)
         # Where nobody waits for replies, many puts may be done whose replies can't be written.
         unheard = at_once and any(call.name == "stdout" for call in errors)
-        writes = talk.writes if unheard else talk.writes[:acknowledged + 1]
-        fault = fault_of_ended(talk, ended, errors) or fault_of_folder(trace.folder, writes, acknowledged, since)
+        writes = talk.puts if unheard else told.writes + [told.next] * bool(told.next and told.next[1] is not None)
+        fault = fault_of_ended(talk, told, ended, errors)
+        fault = fault or fault_of_folder(trace.folder, writes, len(told.writes), since)
         if not fault and not errors:
             fault = "; ".join(sync_faults(calls)) or None
         for path in trace.folder.iterdir():
@@ -179,7 +217,8 @@ class Faults(TracedTest):
         for errors in (("short", "ENOSPC"), ("short", "short", "EIO"), ("EINTR", "short", "EINTR")):
             self.fail_each(talk, "write", *errors)
         files = [path.read_bytes() for path in self.folder.glob("*/store/*.bitcask.data")]
-        self.assertTrue(any(parsed(text)[1] for text in files), "no run left a first part of a record")
+        self.assertGreater(self.cuts, 0, "no run cut off a first part of a record")
+        self.assertFalse(any(parsed(text)[1] for text in files), "a run left a first part of a record")
 
     def test_every_call_does_a_part(self):
         for at_once in (False, True):
@@ -202,7 +241,7 @@ class Faults(TracedTest):
                 break
             with self.subTest(nth=nth):
                 self.assertIsNotNone(fault, failed)
-        self.assertGreater(nth, len(talk.parts))
+        self.assertGreater(nth, len(talk.requests))
 
 
 if __name__ == "__main__":

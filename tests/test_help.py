@@ -11,12 +11,15 @@ class Help(StoreTest):
         ended = run("--help")
         self.assert_ended(ended, 0, ended.stdout)
         text = ended.stdout.decode()
-        for part in ("bitcaskd pipe DIR", "PUT", "GET", "--help", "--version"):
+        for part in ("bitcaskd pipe DIR", "PUT", "GET", "DEL", "FOLD", "KEYS", "SYNC", "STAT", "QUIT", "--help", "--version"):
             self.assertIn(part, text)
         statuses = {tuple(line.split()[:2]) for line in text.splitlines() if line[:1] == " "}
-        for status in [("1", "memory"), ("3", "directory"), ("3", "lock"), ("3", "disk"), ("4", "source"), ("5", "sink"), ("7", "settings"), ("8", "damaged"),
-                       ("9", "full"), ("10", "long"), ("11", "notbuilt")]:
+        for status in [("1", "memory"), ("2", "words"), ("3", "directory"), ("3", "lock"), ("3", "disk"), ("4", "source"),
+                       ("5", "sink"), ("6", "syntax"), ("7", "settings"), ("10", "long")]:
             self.assertIn(status, statuses)
+        for reply in ("OK", "VALUE", "NONE", "PAIR", "KEY", "END", "SYNCED", "BYE", "MEMORY", "DISK", "READ", "DAMAGED", "FULL",
+                      "SYNTAX"):
+            self.assertRegex(text, rf"\b{reply}\b")
         for line in text.splitlines():
             self.assertLessEqual(len(line), 100)
             self.assertEqual(line, line.rstrip())

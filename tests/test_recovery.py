@@ -15,7 +15,6 @@ from support import LOCK_FILE, get, in_memory, numbered, parsed, put, run
 
 KEYS = [b"a", b"b", b"key", b"\n", b"\x00\xff", b"a key of more than thirty bytes, on the heap", b"z" * 300]
 GETS = b"".join(map(get, [*KEYS, b"a key that no directory has"]))
-FULL = 9
 RUNS = int(os.environ.get("DIRECTORIES", 10_000))
 
 
@@ -166,7 +165,8 @@ class Directories(unittest.TestCase):
         it = opened(files)
         ended = run("pipe", str(self.folder), given=put(b"a", b"new"))
         if it.last_seq == LAST_SEQ or it.last_id == LARGEST_ID:
-            self.assertEqual((ended.returncode, ended.stdout), (FULL, b""))
+            full = b"FULL seq\n" if it.last_seq == LAST_SEQ else b"FULL files\n"
+            self.assertEqual((ended.returncode, ended.stdout), (0, full))
             self.assertEqual(self.left(), it.files)
             return
         self.assertEqual((ended.returncode, ended.stdout), (0, numbered(it.last_seq + 1)))

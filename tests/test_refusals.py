@@ -11,13 +11,13 @@ from support import (
     DATA_FILE, LARGEST_VALUE, LOCK_FILE, SECONDS, Client, StoreTest, found, get, numbered, put, record, run,
 )
 
-# What begins no request that the program serves, as soon as its last byte is there.
+# What begins no request, as soon as its last byte is there.
 NO_REQUEST = [
-    b"M", b"DU", b"DEL 1\na\n", b"get 1\na\n", b"\n", b" GET 1\na\n", b"GE\n", b"GETS", b"GET\n", b"GET  1", b"GET \n",
+    b"M", b"DU", b"DEL\n", b"DEL 0", b"DEL 1\nab", b"get 1\na\n", b"\n", b" GET 1\na\n", b"GE\n", b"GETS", b"GET\n", b"GET  1", b"GET \n",
     b"GET 0", b"GET 01", b"GET -1", b"GET +1", b"GET a", b"GET 1 ", b"GET 65536", b"GET 655350", b"GET 1\r\n",
     b"GET 1\nab", b"PUX", b"PUT\n", b"PUT 1\n", b"PUT 0", b"PUT 65536", b"PUT 1 \n", b"PUT 1  1", b"PUT 1 01",
-    b"PUT 1 00", b"PUT 1 1 ", b"PUT 1 16777217", b"PUT 1 167772160", b"PUT 1 1\nabc", b"PUT 1 0\nab", b"FOLD\n",
-    b"KEYS\n", b"SYNC\n", b"STAT\n", b"MERGE\n", b"QUIT\n", b"\x00", b"\xff",
+    b"PUT 1 00", b"PUT 1 1 ", b"PUT 1 16777217", b"PUT 1 167772160", b"PUT 1 1\nabc", b"PUT 1 0\nab", b"FOLD ",
+    b"FOLDS", b"KEYS 1", b"SYNC\r", b"STATUS", b"MERGE\n", b"QUIT ", b"\x00", b"\xff",
 ]
 
 
@@ -30,13 +30,13 @@ class Words(StoreTest):
             ["--help", here], ["--version", "--help"], ["-h"], ["help"], ["pipe", "--help", here],
         ):
             with self.subTest(words=words):
-                self.assert_ended(run(*words, given=put(b"a", b"1")), 11, b"", "notbuilt")
+                self.assert_ended(run(*words, given=put(b"a", b"1")), 2, b"", "words")
         self.assertEqual(list(self.folder.iterdir()), [])
 
     def test_words_that_are_not_utf_8(self):
         for words in ([b"pipe", os.fsencode(self.folder) + b"/\xff"], [b"\xc3", os.fsencode(self.folder)], [b"--help", b"\x80"]):
             with self.subTest(words=words):
-                self.assert_ended(run(*words), 11, b"", "notbuilt")
+                self.assert_ended(run(*words), 2, b"", "words")
         self.assertEqual(list(self.folder.iterdir()), [])
 
 
@@ -60,7 +60,7 @@ class Folders(StoreTest):
     def test_a_folder_whose_last_file_number_is_given_out(self):
         name = "4294967294.bitcask.data"
         (self.folder / name).write_bytes(b"")
-        self.assert_ended(self.pipe(get(b"a") + put(b"a", b"1")), 9, b"NONE\n", "full")
+        self.assert_ended(self.pipe(get(b"a") + put(b"a", b"1") + get(b"a")), 0, b"NONE\nFULL files\nNONE\n")
         self.assertEqual(self.files(), {name: b""})
 
     def test_settings(self):
@@ -145,19 +145,19 @@ class Requests(StoreTest):
         # The input stays open: the run ends as soon as no request can begin so.
         with Client("pipe", str(folder)) as client:
             client.send(given)
-            self.assert_ended(client.ended(), 11, replies, "notbuilt")
+            self.assert_ended(client.ended(), 6, replies, "syntax")
         return {path.name: path.stat().st_size for path in folder.iterdir() if path.name != LOCK_FILE}
 
     def test_what_is_no_request(self):
         for number, given in enumerate(NO_REQUEST):
             with self.subTest(given=given):
-                self.assertEqual(self.refused(number, given, b""), {})
+                self.assertEqual(self.refused(number, given, b"SYNTAX 0\n"), {})
 
     def test_what_is_no_request_after_others(self):
         before, replies = put(b"a", b"1") + get(b"a"), numbered(1) + found(b"1")
         for number, given in enumerate(NO_REQUEST):
             with self.subTest(given=given):
-                self.assertEqual(self.refused(number, before + given, replies), {DATA_FILE: 24})
+                self.assertEqual(self.refused(number, before + given, replies + b"SYNTAX %d\n" % len(before)), {DATA_FILE: 24})
 
 
 def limited(kind, most):
@@ -174,23 +174,20 @@ class Faults(StoreTest):
         client = self.client(preexec_fn=limited(resource.RLIMIT_FSIZE, 30))
         client.send(put(b"a", b"1"))
         self.assertEqual(client.receive(5), numbered(1))
-        self.assert_ended(client.finish(put(b"b", b"2") + get(b"a")), 3, b"", "disk")
-        # What was put stays, and any first part of the record that failed may stand behind it.
+        ended = client.finish(put(b"b", b"2") + get(b"a") + put(b"b", b"") + get(b"b"))
+        self.assert_ended(ended, 0, b"DISK\n" + found(b"1") + b"DISK\nNONE\n")
+        # What was put stays, and the sync at the end has cut off what the append left.
         text = self.files()[DATA_FILE]
-        self.assertEqual(text[:24], record(int.from_bytes(text[4:8], "big"), 1, b"a", b"1"))
-        self.assertLessEqual(len(text), 30)
+        self.assertEqual(text, record(int.from_bytes(text[4:8], "big"), 1, b"a", b"1"))
 
     def test_a_full_disk(self):
         self.mount_small()
         writes = [(b"%02d" % number, bytes([number]) * 10_000) for number in range(40)]
         ended = self.pipe(b"".join(put(*write) for write in writes))
-        served = (ended.stdout or b"").count(b"\n")
-        self.assert_ended(ended, 3, b"".join(numbered(seq) for seq in range(1, served + 1)), "disk")
+        served = (ended.stdout or b"").count(b"OK")
+        replies = b"".join(numbered(seq) for seq in range(1, served + 1)) + b"DISK\n" * (len(writes) - served)
+        self.assert_ended(ended, 0, replies)
         self.assertTrue(20 <= served <= 26, f"{served} records in 256 KiB")
-        # The records of the puts that were answered, and a first part of the next one at most.
-        data, size = self.folder / DATA_FILE, len(record(0, 1, *writes[0]))
-        self.assertTrue(size * served <= data.stat().st_size <= size * (served + 1))
-        os.truncate(data, size * served)
         self.assert_holds(writes[:served])
 
     def mount_small(self):
@@ -206,7 +203,7 @@ class Faults(StoreTest):
         client.send(put(b"a", b"1"))
         self.assertEqual(client.receive(5), numbered(1))
         os.truncate(self.folder / DATA_FILE, 23)
-        self.assert_ended(client.finish(get(b"a")), 3, b"", "disk")
+        self.assert_ended(client.finish(get(b"a") + put(b"b", b"2")), 0, b"READ\n" + numbered(2))
 
     def test_want_of_memory(self):
         client = self.client(preexec_fn=limited(resource.RLIMIT_AS, LARGEST_VALUE))

@@ -77,11 +77,11 @@ class Cuts(StoreTest):
                     folder = self.folder / f"{len(request)} {at}"
                     folder.mkdir()
                     with Client("pipe", str(folder)) as client:
-                        self.assert_ended(client.finish(before + request[:at]), 11, numbered(1), "notbuilt")
+                        self.assert_ended(client.finish(before + request[:at]), 6, numbered(1) + b"SYNTAX 11\n", "syntax")
                     self.assertEqual((folder / "1.bitcask.data").stat().st_size, 24)
 
     def test_the_input_ends_within_the_first_request(self):
-        self.assert_ended(self.pipe(put(b"a", b"1")[:-1]), 11, b"", "notbuilt")
+        self.assert_ended(self.pipe(put(b"a", b"1")[:-1]), 6, b"SYNTAX 0\n", "syntax")
         self.assertEqual(self.files(), {})
 
 

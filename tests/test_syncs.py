@@ -29,11 +29,23 @@ class Syncs(TracedTest):
         return [call.name for call in calls if call.kind == "open" and call.is_of_data]
 
     def test_every_end_of_the_input(self):
-        for given, status, word in ((b"", 0, None), (b"DEL", 11, "notbuilt"), (put(b"a", b"1")[:-1], 11, "notbuilt")):
+        no_request = b"SYNTAX %d\n" % len(FOUR_PUTS)
+        for given, status, last, word in (
+            (b"", 0, b"", None), (b"QUIT\n", 0, b"BYE\n", None), (b"DEL", 6, no_request, "syntax"), (b"\n", 6, no_request, "syntax"),
+            (put(b"a", b"1")[:-1], 6, no_request, "syntax"),
+        ):
             with self.subTest(end=given):
-                calls = self.pipe_traced(FOUR_PUTS + given, status, FOUR_REPLIES, word)
+                calls = self.pipe_traced(FOUR_PUTS + given, status, FOUR_REPLIES + last, word)
                 self.assertEqual(self.made(calls), [DATA_FILE])
                 self.assertEqual(sync_faults(calls), [])
+
+    def test_an_output_that_fails(self):
+        trace = self.trace()
+        with open("/dev/full", "wb") as full:
+            ended = run("pipe", str(trace.folder), given=FOUR_PUTS, stdout=full, **trace.options)
+        self.assert_ended(ended, 5, b"", "sink")
+        self.assertEqual(self.made(trace.calls()), [DATA_FILE])
+        self.assertEqual(sync_faults(trace.calls()), [])
 
     def test_a_full_file(self):
         value = random.Random(7).randbytes(QUARTER)

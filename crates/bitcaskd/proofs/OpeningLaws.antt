@@ -1,7 +1,5 @@
 -- What is known of the moments in which a store was opened.
-use Rattle.std.proofs.Common.{◌≡◌, ◌∙◌, ◌⊎◌, ℕ, ◌≤◌, List, [], Bool, length, map, take, refl, sym, ap, subst, arith, inl, inr, IsTrue, Result, Err}
-use Rattle.std.proofs.lemmas.List.{append-nil, take_all}
-use Rattle.bk_base.specs.declared.histories.Opening.{Opening}
+use Rattle.std.proofs.Common.{◌≡◌, ◌∙◌, ℕ, ◌≤◌, List, [], Bool, false, map, refl, sym, ap, subst, arith, inl, inr, IsTrue, Result, Err}
 use Rattle.bk_base.specs.declared.names.Name.{Name}
 use Rattle.bk_base.specs.declared.statuses.Status.{Status}
 use Rattle.bk_base.specs.declared.statuses.Status.TheVariants.{Done, Memory, Words, Disk, Source, Sink, Syntax, Settings, Damaged, Full, Long, NotBuilt, Door}
@@ -9,10 +7,9 @@ use Rattle.bk_base.specs.declared.writes.Write.{Write}
 use Rattle.bk_disk.specs.Causes.{Rose}
 use Rattle.bk_disk.specs.Crashes.{MayLeave, front_of}
 use Rattle.bk_disk.specs.Told.{Front, Image, IsOnce, IsWell, Table, Told, at, clock, names}
-use Rattle.bk_image.specs.Prefix.{Prefix}
 use Rattle.bk_image.specs.SoundDirectory.{IsSound, IsSoundDisk}
-use Rattle.bk_laws.specs.Log.{SameMap}
 use Rattle.bk_image.specs.Readings.{main}
+use Rattle.bk_keydir.specs.Slots.{has_open}
 use Rattle.bk_load.specs.Courses.{Came, Course, Seen}
 use Rattle.bk_load.specs.SettingsFile.{Answers, Loads, settings_file}
 use Rattle.bk_load.specs.Steps.{AsksOnly}
@@ -31,43 +28,9 @@ use Rattle.bk_store.specs.Shown.{Shown}
 use Rattle.bk_store.specs.Standing.{StandsFor}
 use Rattle.bk_store.specs.Starting.{opening_of}
 use Rattle.bitcaskd.specs.Opening.{IsCauseOf, IsRefused, KeepsLog, Opens, SaysSettings, files_seen, of_open, of_settings}
-use Rattle.bitcaskd.specs.Run.{CrashesFrom, IsBuilt, MayEnd, OpensAt}
-
--- the opening that a store began with, and whether it is known in full
-abbrev pub opening_with : List Write → Bool → Shown → Opening
-opening_with log whole v = record (opening_of log v) { whole = whole }
-
-pub stands_with : (tells whole : Bool) (was : Seen) (log : List Write) (v : Shown) → Opens tells was v
-    → (IsTrue whole → IsTrue tells × IsSoundDisk was.told log) → IsTrue whole → StandsFor v (opening_with log whole v) [] []
-stands_with tells whole was log v opens known is =
-    subst (λ (b : Bool). StandsFor v (opening_with log b v) [] []) (sym is) (opens.stands (known is).0 log (known is).1)
+use Rattle.bitcaskd.specs.Run.{MayEnd, OpensAt}
 
 -- ---- crashes
-
--- a sound image that has the log has all of it
-whole_prefix : (image : Image) (log : List Write) → IsSound image log → Prefix image log (length log) []
-whole_prefix image log sound = record {
-  found = log;
-  sound = sound;
-  part = record {
-    n = length log;
-    low = omega arith;
-    high = omega (arith, ap length (append-nil log));
-    same_map = subst (SameMap log) (sym (ap (take (length log)) (append-nil log) ∙ take_all (length log) log (omega arith))) (λ key. refl);
-  };
-}
-
--- the moments of the opening, in which no request was served
-pub opening_crashes : (o : Opening) (t u : Told) → Goes t u → IsSoundDisk t o.log → CrashesFrom (clock t) u o []
-opening_crashes o t u goes holds k low high = record {
-  done = [];
-  rest = [];
-  are = refl;
-  later = tt;
-  meets = λ image may chance.
-      inl (whole_prefix image o.log
-      (recovery_keeps_log t u o.log goes holds.synced holds.sound k low (omega (arith, high)) image may));
-}
 
 pub opens_at : (t u v : Told) (log : List Write) → Goes t u → IsSoundDisk t log → KeepsPast u v → OpensAt (clock u) t v log
 opens_at t u v log goes holds past = record {
@@ -117,12 +80,16 @@ holds_still len t u log asks sound = record {
 pub opens_by : (tells : Bool) (was now : Seen) (store : Shown) (settings : StoreSettings) → Came tells was now
     → (IsTrue tells → (log : List Write) → IsSoundDisk was.told log → IsSoundDisk now.told log)
     → (IsTrue tells → SaysSettings was.told settings) → Came tells now (files_seen store.files)
-    → store.settings ≡ settings
+    → store.settings ≡ settings → store.files.catalog.max_file ≡ settings.max_file → has_open store.keys.slots ≡ false
     → (IsTrue tells → (log : List Write) → IsSoundDisk now.told log
     → StandsFor store (opening_of log store) [] [])
     → Opens tells was store
-opens_by tells was now store settings before holds says after are stands = record {
+opens_by tells was now store settings before holds says after are limit no_fold stands = record {
   came = came_trans tells was now (files_seen store.files) before after;
+  rested = record {
+    no_fold = no_fold;
+    limit = limit ∙ ap (λ (x : StoreSettings). x.max_file) (sym are);
+  };
   says = λ t. subst (SaysSettings was.told) (sym are) (says t);
   stands = λ t log is. stands t log (holds t log is);
 }
@@ -151,27 +118,10 @@ not_opened tells was now last open_memory before course =
 -- ---- the status of a run
 
 -- a count that rose behind the opening rose in the run
-pub rose_in_run : (tells : Bool) (was : Seen) (store : Shown) (faults views : ℕ) → Opens tells was store
-    → Rose store.files.faults faults ⊎ Rose store.files.fallible_views views → Rose was.faults faults ⊎ Rose was.views views
-rose_in_run tells was store faults views opens (inl rose) =
-    inl (Rose-further was.faults store.files.faults faults opens.came.faults rose)
-rose_in_run tells was store faults views opens (inr rose) =
-    inr (Rose-further was.views store.files.fallible_views views opens.came.views rose)
-
-pub may_end : (status : Status) → IsBuilt status → MayEnd status
-may_end Done is = tt
-may_end Memory is = tt
-may_end Disk is = tt
-may_end Source is = tt
-may_end Sink is = tt
-may_end Damaged is = tt
-may_end Full is = tt
-may_end Long is = tt
-may_end NotBuilt is = tt
-may_end Settings is = tt
-may_end Words is = absurd is
-may_end Syntax is = absurd is
-may_end Door is = absurd is
+pub rose_in_run : (tells : Bool) (was : Seen) (store : Shown) (faults : ℕ) → Opens tells was store
+    → Rose store.files.faults faults → Rose was.faults faults
+rose_in_run tells was store faults opens rose =
+    Rose-further was.faults store.files.faults faults opens.came.faults rose
 
 pub refused_ends : (tells : Bool) (was now : Seen) (status : Status) → IsRefused tells was now status → MayEnd status
 refused_ends tells was now status refused = go status refused.cause

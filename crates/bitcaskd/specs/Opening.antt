@@ -1,5 +1,5 @@
 -- How a directory is opened: its settings are read, and it is recovered.
-use Rattle.std.specs.Prelude.{◌⊎◌, List, [], Bool, IsTrue, Ok, Err}
+use Rattle.std.specs.Prelude.{◌≡◌, ◌⊎◌, List, [], Bool, false, IsTrue, Ok, Err}
 use Rattle.bk_base.specs.declared.statuses.Status.{Status}
 use Rattle.bk_base.specs.declared.statuses.Status.TheVariants.{Memory, Disk, Settings}
 use Rattle.bk_base.specs.declared.writes.Write.{Write}
@@ -8,6 +8,7 @@ use Rattle.bk_disk.specs.Crashes.{AtEach, MayLeave}
 use Rattle.bk_disk.specs.Told.{Front, Image, Table, Told, at, clock}
 use Rattle.bk_files.specs.Files.{Seen as FilesSeen}
 use Rattle.bk_image.specs.SoundDirectory.{IsSound, IsSoundDisk}
+use Rattle.bk_keydir.specs.Slots.{has_open}
 use Rattle.bk_load.specs.Courses.{Came, Seen}
 use Rattle.bk_load.specs.SettingsFile.{Answers, settings_file}
 use Rattle.bk_load.specs.declared.errors.LoadSettings.{LoadSettings}
@@ -51,9 +52,15 @@ pub record IsRefused (tells : Bool) (was now : Seen) (status : Status) : Type 0 
 abbrev pub files_seen : FilesSeen → Seen
 files_seen f = record { told = f.told; faults = f.faults; views = f.fallible_views; outs = f.fallible_outs }
 
+-- No fold is open, and a file is sealed at the length that the settings say.
+pub record IsRested (store : Shown) : Type 0 where
+  pub no_fold : has_open store.keys.slots ≡ false
+  pub limit : store.files.catalog.max_file ≡ store.settings.max_file
+
 -- The store has the settings that the file says, and stands for the log that the directory held.
 pub record Opens (tells : Bool) (was : Seen) (store : Shown) : Type 0 where
   pub came : Came tells was (files_seen store.files)
+  pub rested : IsRested store
   pub says : IsTrue tells → SaysSettings was.told store.settings
   pub stands : IsTrue tells → (log : List Write) → IsSoundDisk was.told log
       → StandsFor store (opening_of log store) [] []

@@ -1,38 +1,45 @@
-//! The end of a run: what was put is synced where the input was read as far as it goes.
-ghost use Rattle.std.specs.Prelude.{◌≡◌, ◌≤◌, OnErr, OnOk};
-ghost use Rattle.bitcaskd.specs.Closing.{ClosesBy, SyncsNot, SyncsWith};
+//! The end of a run: all that was written is synced, whatever ended its session.
+ghost use Rattle.std.specs.Prelude.{◌≡◌, ◌≤◌, IsTrue};
+ghost use Rattle.bk_store.specs.Events.{KeepsPast};
+ghost use Rattle.bitcaskd.specs.Closing.{ClosesBy, if_unsynced, status_of};
 
-use bk_base::Status;
-use bk_disk::{Disk, Failed};
+use bk_base::{SessionEnd, Status};
+use bk_disk::Disk;
 use bk_store::Store;
 
-/// Syncs all writes after the input was read to its end, or as far as requests stand in it. A sync
-/// that fails changes the status of the first alone.
-pub fn close<D: Disk>(store: &mut Store<D>, status: Status) -> Status
-    ensures closes { ClosesBy D.tells status result store.old store.new }
-    ensures views { store.new.files.fallible_views ≡ store.old.files.fallible_views }
-    ensures later { store.old.files.faults ≤ store.new.files.faults }
+/// The status of a run whose session ended so, where its last sync is answered.
+pub fn status_of(end: SessionEnd) -> Status
+    ensures { result ≡ status_of end }
 {
-    match status {
-        Status::Done => match sync(store) {
-            Ok(()) => Status::Done,
-            Err(_) => Status::Disk,
-        },
-        Status::NotBuilt => {
-            let _ = sync(store);
-            Status::NotBuilt
-        }
-        ended => ended,
+    match end {
+        SessionEnd::Quit | SessionEnd::End => Status::Done,
+        SessionEnd::Syntax(_) => Status::Syntax,
+        SessionEnd::Source => Status::Source,
+        SessionEnd::Sink => Status::Sink,
+        SessionEnd::Long => Status::Long,
+        SessionEnd::Memory => Status::Memory,
     }
 }
 
-/// One sync, as a step of the history.
-fn sync<D: Disk>(store: &mut Store<D>) -> Result<(), Failed>
-    ensures ok { OnOk result (SyncsWith D.tells store.old store.new) }
-    ensures err { OnErr result (SyncsNot D.tells store.old store.new) }
-    ensures views { store.new.files.fallible_views ≡ store.old.files.fallible_views }
+/// Syncs all writes, once. A sync that fails changes the status `Done` alone.
+pub fn close<D: Disk>(store: &mut Store<D>, status: Status) -> Status
+    ensures closes { ClosesBy status result D.tells store.old store.new }
+    ensures past { IsTrue D.tells → KeepsPast store.old.files.told store.new.files.told }
     ensures later { store.old.files.faults ≤ store.new.files.faults }
+    ensures views { store.new.files.fallible_views ≡ store.old.files.fallible_views }
 {
-    store.sync()?;
-    Ok(())
+    match store.sync() {
+        Ok(_) => status,
+        Err(_) => if_unsynced(status),
+    }
+}
+
+/// The status of a run whose last sync failed.
+fn if_unsynced(status: Status) -> Status
+    ensures { result ≡ if_unsynced status }
+{
+    match status {
+        Status::Done => Status::Disk,
+        ended => ended,
+    }
 }

@@ -18,22 +18,43 @@ Requests. Numbers are decimal without leading zeros, and each line ends in a lin
              The reply is OK and the number of the write.
   GET k      then k bytes of key and a line feed. The reply is VALUE and the number of bytes, then
              the bytes and a line feed; or NONE.
+  DEL k      then k bytes of key and a line feed. The reply is OK and the number of the write; or
+             NONE, where the last write of the key is no PUT.
+  FOLD       lists all pairs, in any order. For each the reply has PAIR k v, then k bytes of key, v
+             bytes of value and a line feed; and at the end END and the number of pairs.
+  KEYS       lists all keys: KEY k, then k bytes of key and a line feed; and END and their number.
+  SYNC       makes all writes so far survive a power failure. The reply is SYNCED and the number of
+             the last write.
+  STAT       The reply is STAT and four numbers: of keys, of data files, of the bytes in these
+             files, and of the bytes that are the newest records of keys.
+  QUIT       ends the session. The reply is BYE.
+
+Replies to a request that was refused; the session goes on. They stand in the place of END, too.
+  MEMORY     an allocation was refused
+  DISK       a file could not be written or opened
+  READ       a file could not be read
+  DAMAGED file at kept found
+             the record at this place of this file isn't the one that was written: the checksum
+             that was kept, and the one that was found
+  FULL seq   the last number of a write is given out. FULL files: the last number of a file is
+The last line is SYNTAX and an offset where no request stands at this offset of the input.
+
+All writes are synced as the run ends, whatever ends it.
 
 Exit status, with its word on standard error:
-   0             the input was read to its end
+   0             the input was read to its end, or to QUIT
    1  memory     an allocation was refused
+   2  words      the words are none of the above
    3  directory  DIR or its lock file can't be opened. Behind the word stands the reason: 'not
                  found', 'not a directory', 'permission denied', 'read-only file system', 'too
                  many open files', 'the lock file is not a regular file', or 'system error' and
                  its number
    3  lock       another process has DIR
-   3  disk       a file of DIR could not be read or written, or is not a regular file
+   3  disk       a file of DIR could not be read or written while the store was opened or at the
+                 last sync, or is not a regular file
    4  source     standard input could not be read
    5  sink       standard output could not be written
+   6  syntax     the input has something that is no request, or ends within one
    7  settings   bitcask.toml doesn't say settings
-   8  damaged    a record isn't the one that was written
-   9  full       the last number of a write or of a file is given out
   10  long       the input has more than 1099511627776 bytes
-  11  notbuilt   the words are none of the above, or the input has something that is no PUT and no
-                 GET, or ends within one
 ";

@@ -1,17 +1,12 @@
-//! A key-value store over a folder: `bitcaskd pipe DIR` answers the requests on standard input.
+//! A key-value store over a folder: `bitcaskd pipe DIR` holds a session with the client on standard input.
 //!
 //! `run` is the program; `main` gives it the words, the folder, the streams and the clock.
 #![tactic(auto)]
 
 mod closing;
 mod help;
-mod input;
 mod opening;
-mod output;
-mod refusals;
 mod run;
-mod serving;
-mod talking;
 #[cfg(test)]
 mod tests;
 
@@ -31,7 +26,7 @@ fn main(rt: HostRuntime) -> ExitCode {
         [word] if word.as_str() == "--version" => ended(rt, print(rt, help::VERSION)),
         words => match directory_of(words) {
             Some(place) if place < words.len() => over_folder(rt, words, words[place].as_str()),
-            _ => ended(rt, Status::NotBuilt),
+            _ => ended(rt, Status::Words),
         },
     }
 }

@@ -3,14 +3,15 @@ ghost use Rattle.std.specs.Prelude.{◌≡◌, ◌⊎◌, ◌↔◌, ◌<◌, So
 ghost use Rattle.bk_disk.specs.Causes.{Rose};
 ghost use Rattle.bk_load.specs.Courses.{Seen};
 ghost use Rattle.bk_load.specs.Tidying.{NoneLent};
-ghost use Rattle.bitcaskd.specs.Opening.{Opens};
-ghost use Rattle.bitcaskd.specs.Run.{IsBuilt, IsPipe, MayEnd, Refuses, Runs, outside, telling};
+ghost use Rattle.bitcaskd.specs.Opening.{IsRested, Opens};
+ghost use Rattle.bitcaskd.specs.Run.{IsPipe, MayEnd, Refuses, Runs, outside, telling};
 
-use crate::closing::close;
+use crate::closing::{close, status_of};
 use crate::opening::open_store;
-use crate::talking::talk;
 use bk_base::Status;
+use bk_base::limits::LONGEST_SESSION;
 use bk_disk::{Clock, Disk, Sink, Source};
+use bk_session::session;
 use bk_store::Store;
 use std::alloc::Global;
 
@@ -32,7 +33,7 @@ pub fn directory_of(words: &[String]) -> Option<usize>
     }
 }
 
-/// Runs over a disk: it is opened, and the requests are answered.
+/// Runs over a disk: it is opened, and a session is held.
 fn over_disk<D: Disk, S: Source, K: Sink, C: Clock>(
     alloc: Global,
     disk: D,
@@ -61,7 +62,7 @@ fn over_disk<D: Disk, S: Source, K: Sink, C: Clock>(
     }
 }
 
-/// Runs over a store that was opened.
+/// Runs over a store that was opened: a session is held, and all writes are synced, whatever ended it.
 fn over_store<D: Disk, S: Source, K: Sink, C: Clock>(
     alloc: Global,
     mut store: Store<D>,
@@ -69,29 +70,30 @@ fn over_store<D: Disk, S: Source, K: Sink, C: Clock>(
     sink: &mut K,
     clock: &mut C,
 ) -> Ended<D>
+    requires { IsRested store }
     ensures ran { (was : Seen) → Opens D.tells was store → Runs (telling D.tells S.tells K.tells C.tells)
         (outside was.told was.faults was.views was.outs (S.whole source.old) (S.taken source.old)
         (K.written sink.old) (K.faults sink.old) (C.moments clock.old))
         (outside (D.told result.disk) (D.faults result.disk) (D.fallible_views result.disk)
         (D.fallible_outs result.disk) (S.whole source.new) (S.taken source.new) (K.written sink.new) (K.faults sink.new)
         (C.moments clock.new)) result.status }
-    ensures built { IsBuilt result.status }
-    ensures disk { result.status ≡ Status.Disk → Rose store.files.faults (D.faults result.disk)
-        ⊎ Rose store.files.fallible_views (D.fallible_views result.disk) }
+    ensures ends { MayEnd result.status }
+    ensures disk { result.status ≡ Status.Disk → Rose store.files.faults (D.faults result.disk) }
     ensures source { result.status ≡ Status.Source
         → Rose (S.faults source.old) (S.faults source.new) }
     ensures sink { result.status ≡ Status.Sink → Rose (K.faults sink.old) (K.faults sink.new) }
 {
-    let stopped = talk(alloc, &mut store, source, sink, clock);
-    let status = close(&mut store, stopped);
+    let end = session(alloc, &mut store, source, sink, clock, LONGEST_SESSION);
+    let status = close(&mut store, status_of(end));
     Ended {
         disk: store.close(),
         status,
     }
 }
 
-/// Runs `pipe`: opens the directory, whatever a crash left of it, and answers the requests of the source
-/// on the sink. The status says how it ended, and all that it did is one history of a map.
+/// Runs `pipe`: opens the directory, whatever a crash left of it, holds a session with the client behind
+/// the source and the sink, and syncs all writes. The status says how it ended, and all that it did is one
+/// history of a map.
 pub fn run<D: Disk, S: Source, K: Sink, C: Clock>(
     alloc: Global,
     words: &[String],
@@ -103,7 +105,7 @@ pub fn run<D: Disk, S: Source, K: Sink, C: Clock>(
     requires { IsTrue D.tells → NoneLent (D.told disk).fronts }
 
     // Words that aren't those of `pipe` are refused before anything is touched.
-    ensures words { ¬ (IsPipe (map string_bytes words.now)) → result.status ≡ Status.NotBuilt }
+    ensures words { ¬ (IsPipe (map string_bytes words.now)) → result.status ≡ Status.Words }
     ensures disk_same { ¬ (IsPipe (map string_bytes words.now)) → result.disk ≡ disk }
     ensures source_same { ¬ (IsPipe (map string_bytes words.now)) → source.new ≡ source.old }
     ensures sink_same { ¬ (IsPipe (map string_bytes words.now)) → sink.new ≡ sink.old }
@@ -121,7 +123,7 @@ pub fn run<D: Disk, S: Source, K: Sink, C: Clock>(
         → Refuses tells old new result.status ⊎ Runs tells old new result.status }
 
     // Each status other than `Done` has its cause; `Memory` alone is free.
-    ensures ends { MayEnd result.status }
+    ensures ends { IsPipe (map string_bytes words.now) → MayEnd result.status }
     ensures disk { result.status ≡ Status.Disk → Rose (D.faults disk) (D.faults result.disk)
         ⊎ Rose (D.fallible_views disk) (D.fallible_views result.disk) }
     ensures source { result.status ≡ Status.Source
@@ -132,7 +134,7 @@ pub fn run<D: Disk, S: Source, K: Sink, C: Clock>(
         Some(_) => over_disk(alloc, disk, source, sink, clock),
         None => Ended {
             disk,
-            status: Status::NotBuilt,
+            status: Status::Words,
         },
     }
 }

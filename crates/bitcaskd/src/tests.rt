@@ -11,24 +11,44 @@ use std::alloc::{AllocError, Global};
 use std::process::Abort;
 use std::test::Fail;
 
-/// What a run is given and what it is to write, and its status.
-const ROWS: [(&str, &str, Status); 7] = [
-    ("", "", Status::Done),
+/// What a run is given and what it is to write, its status, and the length of its data file, 0 for none.
+const ROWS: [(&str, &str, Status, usize); 10] = [
+    ("", "", Status::Done, 0),
     (
         "PUT 1 1\na1\nGET 1\na\n",
         "OK 1\nVALUE 1\n1\n",
         Status::Done,
+        24,
     ),
-    ("GET 1\na\nGET 0", "NONE\n", Status::NotBuilt),
-    ("PUT 65536 0\n", "", Status::NotBuilt),
-    ("PUT 1 16777217\n", "", Status::NotBuilt),
-    ("PUT 1 5\nabc", "", Status::NotBuilt),
     (
-        "PUT 1 0\na\nPUT 1 1\nb2\nGET 1\na\nGET 1\nb\n",
-        "OK 1\nOK 2\nVALUE 0\n\nVALUE 1\n2\n",
+        "PUT 1 0\na\nGET 1\na\nDEL 1\na\nGET 1\na\n",
+        "OK 1\nVALUE 0\n\nOK 2\nNONE\n",
         Status::Done,
+        46,
+    ),
+    ("DEL 1\na\n", "NONE\n", Status::Done, 0),
+    (
+        "PUT 1 1\na1\nDEL 1\na\nDEL 1\na\n",
+        "OK 1\nOK 2\nNONE\n",
+        Status::Done,
+        47,
+    ),
+    ("PUT 65536 0\n", "SYNTAX 0\n", Status::Syntax, 0),
+    ("GET 1\na\nGET 0", "NONE\nSYNTAX 8\n", Status::Syntax, 0),
+    ("PUT 1 16777217\n", "SYNTAX 0\n", Status::Syntax, 0),
+    ("PUT 1 5\nabc", "SYNTAX 0\n", Status::Syntax, 0),
+    (
+        "PUT 1 1\na1\nSTAT\nSYNC\nKEYS\nFOLD\nQUIT\nGET 1\na\n",
+        "OK 1\nSTAT 1 1 24 24\nSYNCED 1\nKEY 1\na\nEND 1\nPAIR 1 1\na1\nEND 1\nBYE\n",
+        Status::Done,
+        24,
     ),
 ];
+
+const DATA_FILE: Name = Name {
+    id: 1,
+    kind: Kind::Main,
+};
 
 /// What a run left.
 #[derive(Drop)]
@@ -45,11 +65,12 @@ impl Left {
     }
 }
 
-/// The words `pipe d`.
-fn words(alloc: Global) -> Result<Vec<String>, AllocError> {
+/// These words as a program has them.
+fn words_of(alloc: Global, texts: &[&str]) -> Result<Vec<String>, AllocError> {
     let mut words = Vec::new(alloc);
-    words.push(String::from_str(alloc, "pipe")?)?;
-    words.push(String::from_str(alloc, "d")?)?;
+    for text in texts {
+        words.push(String::from_str(alloc, text)?)?;
+    }
     Ok(words)
 }
 
@@ -61,15 +82,23 @@ fn at_five(alloc: Global) -> Result<ListClock, AllocError> {
 }
 
 /// Runs `pipe d` over this disk.
-fn pipe(
+fn pipe(alloc: Global, disk: MemDisk, source: MemSource, sink: MemSink) -> Result<Left, AllocError>
+    requires { NoneLent (told_by disk).fronts }
+{
+    run_of(alloc, &["pipe", "d"], disk, source, sink)
+}
+
+/// Runs these words over this disk.
+fn run_of(
     alloc: Global,
+    texts: &[&str],
     disk: MemDisk,
     mut source: MemSource,
     mut sink: MemSink,
 ) -> Result<Left, AllocError>
     requires { NoneLent (told_by disk).fronts }
 {
-    let words = words(alloc)?;
+    let words = words_of(alloc, texts)?;
     let mut clock = at_five(alloc)?;
     let Ended { disk, status } = run(alloc, &words, disk, &mut source, &mut sink, &mut clock);
     let output = sink.bytes().to_vec(alloc)?;
@@ -107,9 +136,11 @@ fn answered(alloc: Global, input: &[u8], most: usize) -> Result<Left, AllocError
 
 #[test]
 fn rows(rt: HostRuntime) -> Result<(), Fail> {
-    for (input, output, status) in ROWS {
+    for (input, output, status, len) in ROWS {
         let left = answered(rt.alloc(), input.as_bytes(), 7)?;
-        assert!(rt; left.is(output.as_bytes(), status));
+        assert!(rt; left.is(output.as_bytes(), status), "{input}");
+        let bytes = left.disk.bytes(DATA_FILE).unwrap_or(&[]);
+        assert_eq!(rt; bytes.len(), len);
     }
     Ok(())
 }
@@ -146,6 +177,50 @@ fn largest(rt: HostRuntime) -> Result<(), Fail> {
 
 const GET: &[u8] = b"GET 1\na\n";
 
+/// Words that no line of the program's table reads.
+const NO_WORDS: [&[&str]; 4] = [&["pipe"], &["fill", "d", "01"], &["frob", "d"], &[]];
+
+#[test]
+fn words_that_are_refused(rt: HostRuntime) -> Result<(), Fail> {
+    let alloc = rt.alloc();
+    for texts in NO_WORDS {
+        let source = MemSource::new(GET.to_vec(alloc)?, None, 1_000);
+        let sink = MemSink::new(alloc, 1_000, None).map_err(|_| AllocError)?;
+        let left = run_of(alloc, texts, MemDisk::new(alloc), source, sink)?;
+        assert!(rt; left.is(b"", Status::Words));
+    }
+    Ok(())
+}
+
+#[test]
+fn failing_view(rt: HostRuntime) -> Result<(), Fail> {
+    let alloc = rt.alloc();
+    let mut disk = MemDisk::new(alloc);
+    assert!(rt; disk.fail_view(1).is_ok());
+    let left = piped(
+        alloc,
+        disk,
+        b"PUT 1 1\na1\nGET 1\na\nGET 1\na\n",
+        1_000,
+        None,
+    )?;
+    assert!(rt; left.is(b"OK 1\nREAD\nVALUE 1\n1\n", Status::Done));
+    Ok(())
+}
+
+/// The last sync is the call of the disk with this number, behind those of the opening and of a put.
+const LAST_SYNC: u64 = 7;
+
+#[test]
+fn failing_last_sync(rt: HostRuntime) -> Result<(), Fail> {
+    let alloc = rt.alloc();
+    let mut disk = MemDisk::new(alloc);
+    assert!(rt; disk.fail(LAST_SYNC, 0).is_ok());
+    let left = piped(alloc, disk, b"PUT 1 1\na1\n", 1_000, None)?;
+    assert!(rt; left.is(b"OK 1\n", Status::Disk));
+    Ok(())
+}
+
 #[test]
 fn failing_source(rt: HostRuntime) -> Result<(), Fail> {
     let alloc = rt.alloc();
@@ -173,11 +248,6 @@ fn failing_listing(rt: HostRuntime) -> Result<(), Fail> {
     assert!(rt; left.is(b"", Status::Disk));
     Ok(())
 }
-
-const DATA_FILE: Name = Name {
-    id: 1,
-    kind: Kind::Main,
-};
 
 /// A disk with one file.
 fn with_file(alloc: Global, name: Name, bytes: &[u8]) -> Result<MemDisk, AllocError>
@@ -234,12 +304,14 @@ fn bad_settings(rt: HostRuntime) -> Result<(), Fail> {
     Ok(())
 }
 
-/// What a run of two puts leaves that no sync closed.
+/// What a run of two puts leaves whose last sync fails.
 fn two_puts(alloc: Global) -> Result<MemDisk, AllocError> {
     let input = b"PUT 1 1\na1\nPUT 1 1\nb2\n".to_vec(alloc)?;
-    let source = MemSource::new(input, Some(2), 1_000);
+    let source = MemSource::new(input, None, 1_000);
     let sink = MemSink::new(alloc, 1_000, None).map_err(|_| AllocError)?;
-    Ok(pipe(alloc, MemDisk::new(alloc), source, sink)?.disk)
+    let mut disk = MemDisk::new(alloc);
+    disk.fail(LAST_SYNC + 1, 0).map_err(|_| AllocError)?;
+    Ok(pipe(alloc, disk, source, sink)?.disk)
 }
 
 /// What a crash leaves of the disk: of the last record some bytes.

@@ -1,8 +1,9 @@
 //! The store of a directory: what was recovered is what it starts from.
-ghost use Rattle.std.specs.Prelude.{◌≡◌, [], Err, List, IfErr, IfOk, IsTrue};
+ghost use Rattle.std.specs.Prelude.{◌≡◌, [], false, Err, List, IfErr, IfOk, IsTrue};
 ghost use Rattle.bk_base.specs.declared.writes.Write.{Write};
 ghost use Rattle.bk_disk.specs.Told.{at};
 ghost use Rattle.bk_image.specs.SoundDirectory.{IsSoundDisk};
+ghost use Rattle.bk_keydir.specs.Slots.{has_open};
 ghost use Rattle.bk_load.specs.Courses.{Came, Course};
 ghost use Rattle.bk_load.specs.Tidying.{NoneLent};
 ghost use Rattle.bk_store.specs.Standing.{StandsFor};
@@ -23,6 +24,8 @@ pub fn open<D: Disk>(alloc: Global, disk: D, settings: Settings) -> Result<Store
         (record { told = D.told disk; faults = D.faults disk; views = D.fallible_views disk; outs = D.fallible_outs disk })
         (record { told = store.files.told; faults = store.files.faults; views = store.files.fallible_views; outs = store.files.fallible_outs })) }
     ensures settings { IfOk result (λ store. store.settings ≡ settings) }
+    ensures limit { IfOk result (λ store. store.files.catalog.max_file ≡ settings.max_file) }
+    ensures no_fold { IfOk result (λ store. has_open store.keys.slots ≡ false) }
     ensures stands { IsTrue D.tells → (log : List Write) → IsSoundDisk (D.told disk) log
         → IfOk result (λ store. StandsFor store (opening_of log store) [] []) }
     ensures refused { IfErr result (λ refused. Course {T = Unit {0}} D.tells

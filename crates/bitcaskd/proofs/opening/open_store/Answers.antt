@@ -46,7 +46,8 @@ returns-in-Ok-open-clause-opens g c =
     (settings_came g.D.Disk.tells was now (length (bytes_of settings_file was.told.image)) _ c.settings.ensures.loads c.settings.ensures.asked)
     (λ t log. holds_still (length (bytes_of settings_file was.told.image)) was.told now.told log
     (c.settings.ensures.asked t))
-    c.in-Ok.ensures.answers c.in-Ok-open.ensures.came c.in-Ok-open.ensures.settings c.in-Ok-open.ensures.stands
+    c.in-Ok.ensures.answers c.in-Ok-open.ensures.came c.in-Ok-open.ensures.settings c.in-Ok-open.ensures.limit
+    c.in-Ok-open.ensures.no_fold c.in-Ok-open.ensures.stands
 
 pub returns-in-Err-open-clause-refused : goal.returns-in-Err-open-clause-refused
 returns-in-Err-open-clause-refused g c =

@@ -1,7 +1,7 @@
 use Rattle.std.proofs.Common.{inl, inr, refl}
 use Rattle.bk_base.specs.declared.statuses.Status.TheVariants.{Disk, Source, Sink}
 use Rattle.bk_load.specs.Courses.{Seen}
-use Rattle.bitcaskd.proofs.OpeningLaws.{caused, keeps_log, may_end, refused_ends, rose_in_run}
+use Rattle.bitcaskd.proofs.OpeningLaws.{caused, keeps_log, refused_ends, rose_in_run}
 use Rattle.bitcaskd.proofs.run.over_disk.Goals as goal
 
 pub returns-in-Ok-clause-ran : goal.returns-in-Ok-clause-ran
@@ -14,9 +14,6 @@ returns-in-Ok-clause-ran g c =
     } in
     inr (c.over_store.ensures.ran was c.in-Ok.ensures.opens)
 
-pub returns-in-Ok-clause-ends : goal.returns-in-Ok-clause-ends
-returns-in-Ok-clause-ends g c = may_end c.over_store.result.status c.over_store.ensures.built
-
 pub returns-in-Ok-clause-disk : goal.returns-in-Ok-clause-disk
 returns-in-Ok-clause-disk g c = λ is.
     let was : Seen = record {
@@ -25,8 +22,8 @@ returns-in-Ok-clause-disk g c = λ is.
       views = g.D.Disk.fallible_views c.args.disk;
       outs = g.D.Disk.fallible_outs c.args.disk;
     } in
-    rose_in_run g.D.Disk.tells was c.in-Ok.store (g.D.Disk.faults c.over_store.result.disk)
-    (g.D.Disk.fallible_views c.over_store.result.disk) c.in-Ok.ensures.opens (c.over_store.ensures.disk is)
+    inl (rose_in_run g.D.Disk.tells was c.in-Ok.store (g.D.Disk.faults c.over_store.result.disk) c.in-Ok.ensures.opens
+    (c.over_store.ensures.disk is))
 
 pub returns-in-Err-clause-ran : goal.returns-in-Err-clause-ran
 returns-in-Err-clause-ran g c = inl (record {
