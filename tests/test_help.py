@@ -1,9 +1,14 @@
-"""What the program says of itself."""
+"""What the program says of itself, and that its page docs/man/bitcaskd.1 says the same."""
 
 import os
+import pathlib
+import re
 import unittest
 
 from support import StoreTest, run
+
+PAGE = pathlib.Path(__file__).resolve().parent.parent / "docs" / "man" / "bitcaskd.1"
+MACROS = re.compile(r"^\.[A-Z][a-z]\b|\b(?:Cm|Ar|Ic)\b")
 
 
 class Help(StoreTest):
@@ -59,6 +64,65 @@ class Help(StoreTest):
                 self.assert_ended(ended, 5, b"", "sink")
             with self.subTest(word=word, output="closed"):
                 self.assert_ended(run(word, stdout=None, preexec_fn=lambda: os.close(1)), 5, b"", "sink")
+
+
+def section(page, name):
+    """The lines of a section of the page, or of a part of one."""
+    return re.split(r"^\.(?:Sh|Ss) ", page.partition(f" {name}\n")[2], maxsplit=1, flags=re.MULTILINE)[0].splitlines()
+
+
+def plain(line):
+    """A line of the page without its macros."""
+    return " ".join(MACROS.sub(" ", re.sub(r"\.?Fl Fl ", "--", line)).split())
+
+
+def items(lines):
+    """What the entries of the lists in these lines are of."""
+    return [plain(line) for line in lines if line.startswith(".It ")]
+
+
+def names(lines):
+    """What stands in the first column of these lines of the help."""
+    return [line.split("  ")[1] for line in lines if re.match("  [^ ]", line)]
+
+
+class Page(unittest.TestCase):
+    """The page has the commands, the requests, the replies and the statuses of the help, and no others."""
+
+    maxDiff = None
+
+    def setUp(self):
+        self.page, self.help = PAGE.read_text(), run("--help").stdout.decode()
+        part, self.usage, self.requests, self.refusals, self.statuses = (
+            it.splitlines() for it in re.split("^(?:Usage:|Requests\\.|Replies to|Exit status)", self.help, flags=re.MULTILINE)
+        )
+        self.assertTrue(part)
+
+    def test_commands(self):
+        commands = names(self.usage)
+        synopsis = "\n".join(section(self.page, "SYNOPSIS")).split(".Nm\n")[1:]
+        self.assertEqual([" ".join(["bitcaskd", *map(plain, it.splitlines())]) for it in synopsis], commands)
+        self.assertEqual([f"bitcaskd {it}" for it in items(section(self.page, "DESCRIPTION"))], commands)
+
+    def test_requests(self):
+        self.assertEqual(items(section(self.page, "Requests")), names(self.requests))
+
+    def test_replies(self):
+        refusals = set(names(self.refusals)) | set(re.findall("FULL [a-z]+", self.help))
+        self.assertEqual(set(items(section(self.page, "Refusals"))), {it.partition(":")[0] for it in refusals})
+        page = " ".join(map(plain, section(self.page, "Requests") + section(self.page, "Refusals")))
+        words = " ".join(self.requests + self.refusals)
+        self.assertEqual(set(re.findall(r"\b[A-Z]{2,}\b", page)), set(re.findall(r"\b[A-Z]{2,}\b", words)))
+
+    def test_statuses(self):
+        statuses = [" ".join(it.groups("")).strip() for it in map(re.compile(r" {2,3}(\d+)(?:  (\w+))?  ").match, self.statuses) if it]
+        self.assertEqual(items(section(self.page, "EXIT STATUS")), statuses)
+        reasons = re.findall(r"(?<!\w)'([a-z -]+)'(?!\w)", " ".join(" ".join(self.statuses).split()))
+        self.assertEqual(re.findall(r"^\.Ql ([a-z -]+?)(?: ,)?$", "\n".join(section(self.page, "EXIT STATUS")), re.MULTILINE), reasons)
+
+    def test_limits(self):
+        numbers = set(re.findall(r"\b\d{3,}\b", self.help))
+        self.assertLessEqual(numbers, set(re.findall(r"\b\d{3,}\b", self.page)))
 
 
 if __name__ == "__main__":
