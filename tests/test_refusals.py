@@ -1,12 +1,16 @@
 """Each refusal has its status and its word on standard error, and leaves what was there."""
 
 import os
+import pathlib
 import resource
 import shutil
 import signal
 import subprocess
 import unittest
+import zlib
 
+from directories import LAST_SEQ
+from model import replies_of
 from support import (
     DATA_FILE, LARGEST_VALUE, LOCK_FILE, SECONDS, Client, StoreTest, found, get, numbered, put, record, run,
 )
@@ -158,6 +162,79 @@ class Requests(StoreTest):
         for number, given in enumerate(NO_REQUEST):
             with self.subTest(given=given):
                 self.assertEqual(self.refused(number, before + given, replies + b"SYNTAX %d\n" % len(before)), {DATA_FILE: 24})
+
+
+class Lines(StoreTest):
+    """Refusals of requests that a directory brings; the session goes on behind each."""
+
+    def test_the_last_number_of_a_write(self):
+        (self.folder / DATA_FILE).write_bytes(record(5, LAST_SEQ, b"a", b"1"))
+        before = self.files()
+        given = get(b"a") + put(b"a", b"2") + b"DEL 1\na\nDEL 1\nb\nSYNC\nKEYS\n" + get(b"a")
+        replies = found(b"1") + b"FULL seq\nFULL seq\nNONE\nSYNCED %d\nKEY 1\na\nEND 1\n" % LAST_SEQ + found(b"1")
+        self.assert_ended(self.pipe(given), 0, replies)
+        self.assertEqual(self.files(), before)
+
+    def test_the_last_numbers(self):
+        # One more write has a number, and one more file; the next write has neither.
+        (self.folder / "4294967293.bitcask.data").write_bytes(record(5, LAST_SEQ - 1, b"a", b"1"))
+        self.assert_ended(self.pipe(put(b"a", b"2") + put(b"a", b"3") + get(b"a")), 0,
+                          numbered(LAST_SEQ) + b"FULL seq\n" + found(b"2"))
+        self.assertEqual(sorted(self.files()), ["4294967293.bitcask.data", "4294967294.bitcask.data"])
+
+    def test_a_file_that_is_due_behind_the_last_one(self):
+        (self.folder / "bitcask.toml").write_text("max_file = 4096\n")
+        (self.folder / "4294967293.bitcask.data").write_bytes(b"")
+        value = bytes(4_000)
+        given = put(b"a", value) + put(b"b", value) + b"DEL 1\na\nDEL 1\na\n" + get(b"b") + put(b"c", b"3") + put(b"d", bytes(60))
+        replies = numbered(1) + b"FULL files\n" + numbered(2) + b"NONE\nNONE\n" + numbered(3) + b"FULL files\n"
+        self.assert_ended(self.pipe(given), 0, replies)
+        self.assertEqual(len(self.files()["4294967294.bitcask.data"]), 4_023 + 23 + 24)
+
+    def test_little_memory(self):
+        self.assert_ended(self.pipe(put(b"a", bytes(LARGEST_VALUE)) + put(b"b", b"1")), 0, numbered(1) + numbered(2))
+        # So the C library keeps nothing of what the opening took.
+        client = self.client(env={**os.environ, "MALLOC_MMAP_THRESHOLD_": "1048576"})
+        client.send(get(b"b"))
+        self.assertEqual(client.receive(10), found(b"1"))
+        least = int(pathlib.Path(f"/proc/{client.process.pid}/statm").read_text().split()[0]) * resource.getpagesize()
+        resource.prlimit(client.process.pid, resource.RLIMIT_AS, (least + LARGEST_VALUE // 2,) * 2)
+        ended = client.finish(get(b"a") + b"FOLD\n" + get(b"b") + b"KEYS\n" + put(b"b", b"2") + get(b"b") + get(b"a"))
+        self.assertEqual([it for it in replies_of(ended.stdout) if it != b"PAIR 1 1\nb1\n"], [
+            b"MEMORY\n", b"MEMORY\n", found(b"1"), b"KEY 1\na\n", b"KEY 1\nb\n", b"END 2\n", numbered(3), found(b"2"), b"MEMORY\n"])
+        self.assertEqual((ended.returncode, ended.stderr), (0, b""))
+
+    def changed(self, change):
+        """A session that puts two values, and whose data file then changes from outside. Gives it, and the record that was
+        changed, as it was."""
+        client = self.client()
+        client.send(put(b"a", b"1") + put(b"b", b"2"))
+        self.assertEqual(client.receive(10), numbered(1) + numbered(2))
+        text = self.files()[DATA_FILE]
+        with open(self.folder / DATA_FILE, "r+b") as file:
+            change(file)
+        return client, text[24:]
+
+    def test_a_record_that_is_changed(self):
+        def change(file):
+            file.seek(47)
+            file.write(b"!")
+        client, was = self.changed(change)
+        now = was[:-1] + b"!"
+        line = b"DAMAGED 1 24 %08x %08x\n" % (zlib.crc32(was[4:]), zlib.crc32(now[4:]))
+        self.assert_refused(client, line)
+
+    def test_a_record_that_is_cut_off(self):
+        client, _ = self.changed(lambda file: file.truncate(30))
+        self.assert_refused(client, b"READ\n")
+
+    def assert_refused(self, client, line):
+        """The record of b is refused by this line, in a listing too; the other one may stand before it there."""
+        ended = client.finish(get(b"b") + b"FOLD\n" + get(b"a") + b"KEYS\n")
+        replies = replies_of(ended.stdout)
+        self.assertEqual([it for it in replies if it != b"PAIR 1 1\na1\n"],
+                         [line, line, found(b"1"), b"KEY 1\na\n", b"KEY 1\nb\n", b"END 2\n"])
+        self.assertEqual((ended.returncode, ended.stderr), (0, b""))
 
 
 def limited(kind, most):
