@@ -28,10 +28,19 @@ class Version(typing.NamedTuple):
     gone: bool
 
 
+class Found(typing.NamedTuple):
+    """What an opening finds of a data file."""
+
+    length: int
+    total: int  # the bytes of its whole records, as far as they are read
+    hint: bytes  # what its hint is, or None where it has none
+
+
 class Opened(typing.NamedTuple):
     """What an opening makes of a directory."""
 
     files: dict  # the bytes of each file by its name
+    found: dict  # what is found of each data file, by its number
     versions: dict  # the version of each key that isn't gone
     last_seq: int
     last_id: int
@@ -72,29 +81,34 @@ def hint_of(text, covered=None):
     return rows + HINT_HEADER.pack(0, 0, 0, end, count, zlib.crc32(rows))
 
 
-def hinted(text, length):
-    """The rows of a hint that is Good for a data file of this length, and what it covers; or None."""
-    rows, at, sound = [], 0, True
+def judged(text, length):
+    """What a hint is for a data file of this length, as a report has it; its rows, and what they cover, where it is Good."""
+    rows, at, wrong = [], 0, []  # the numbers of rows that can't be
     while True:
         if len(text) - at < HINT_HEADER.size:
-            return None
+            return b"NOTWHOLE", [], 0
         moment, key_length, value_length, place, seq, checksum = HINT_HEADER.unpack_from(text, at)
         if key_length == 0:
             break
         key = text[at + HINT_HEADER.size:at + HINT_HEADER.size + key_length]
         if len(key) < key_length:
-            return None
+            return b"NOTWHOLE", [], 0
         gone = value_length == TOMBSTONE
         size = HEADER.size + key_length + (0 if gone else value_length)
-        sound = sound and 0 < seq < 1 << 63 and (gone or value_length <= LARGEST_VALUE)
+        if not (0 < seq < 1 << 63 and (gone or value_length <= LARGEST_VALUE)):
+            wrong.append(len(rows))
         rows.append((key, Version(seq, 0, place, size, checksum, gone)))
         at += HINT_HEADER.size + key_length
     if (moment, value_length, seq, at + HINT_HEADER.size) != (0, 0, len(rows), len(text)):
-        return None
-    ends_within = all(it.at + it.size <= place for _, it in rows)
-    if zlib.crc32(text[:at]) != checksum or place > length or not (sound and ends_within):
-        return None
-    return rows, place
+        return b"NOTWHOLE", [], 0
+    if checksum != zlib.crc32(text[:at]):
+        return b"BADCHECK %08x %08x" % (checksum, zlib.crc32(text[:at])), [], 0
+    if place > length:
+        return b"LENGTH %d %d" % (place, length), [], 0
+    wrong += [number for number, (_, it) in enumerate(rows) if it.at + it.size > place]
+    if wrong:
+        return b"ROW %d" % min(wrong), [], 0
+    return b"GOOD", rows, place
 
 
 def list_of(inputs, outputs):
@@ -169,32 +183,68 @@ def settled(files):
 
 def opened(files):
     """What an opening makes of these files."""
-    after, newest, last_seq = settled(files), {}, 0
+    after, all_found, newest, last_seq = settled(files), {}, {}, 0
     for number in numbers_of(after, "data"):
-        text, found, covered = after[name_of(number, "data")], [], 0
-        hint = after.get(name_of(number, "hint"))
-        good = hinted(hint, len(text)) if hint is not None else None
-        if good:
-            found, covered = good
-        for key, it in found + scanned(text, covered)[0]:
+        text, hint = after[name_of(number, "data")], after.get(name_of(number, "hint"))
+        verdict, rows, covered = judged(hint, len(text)) if hint is not None else (None, [], 0)
+        records, total = scanned(text, covered)
+        all_found[number] = Found(len(text), total, verdict)
+        for key, it in rows + records:
             last_seq = max(last_seq, it.seq)
             if key not in newest or newest[key].seq < it.seq:
                 newest[key] = it._replace(file=number)
     last_id = max((it[0] for it in map(named, files) if it), default=0)
-    return Opened(after, {key: it for key, it in newest.items() if not it.gone}, last_seq, last_id)
+    return Opened(after, all_found, {key: it for key, it in newest.items() if not it.gone}, last_seq, last_id)
+
+
+def report_of(it, odd):
+    """The report of an opened directory that has these odd swap lists."""
+    lines = []
+    for number, found in it.found.items():
+        live = sum(version.size for version in it.versions.values() if version.file == number)
+        lines.append(b"FILE %d %d %d %d\n" % (number, found.length, found.total, live))
+        if found.total < found.length:
+            lines.append(b"TORN %d %d %d\n" % (number, found.total, found.length - found.total))
+        if found.hint is not None:
+            lines.append(b"HINT %d %s\n" % (number, found.hint))
+    lines += [b"ODD %s\n" % name.encode() for name in odd]
+    torn = sum(found.total < found.length for found in it.found.values())
+    return b"".join(lines) + b"CHECKED %d %d\n" % (len(it.found), torn)
+
+
+def odd_lists(files):
+    """The names of the swap lists that aren't whole, in order."""
+    names = [name_of(number, "swap") for number in numbers_of(files, "swap")]
+    return [name for name in names if listed(files[name]) is None]
+
+
+def value_of(it, key):
+    """The value of a key of an opened directory, or the line that says that its record is damaged."""
+    version = it.versions[key]
+    text = it.files[name_of(version.file, "data")][version.at:version.at + version.size]
+    checksum = zlib.crc32(text[4:])
+    if checksum != version.checksum:
+        return None, b"DAMAGED %d %d %08x %08x\n" % (version.file, version.at, version.checksum, checksum)
+    return text[HEADER.size + len(key):], None
 
 
 def reply_to_get(it, key):
     """The reply to a get of the key over an opened directory whose puts are always live."""
-    version = it.versions.get(key)
-    if version is None:
+    if key not in it.versions:
         return b"NONE\n"
-    text = it.files[name_of(version.file, "data")][version.at:version.at + version.size]
-    checksum = zlib.crc32(text[4:])
-    if checksum != version.checksum:
-        return b"DAMAGED %d %d %08x %08x\n" % (version.file, version.at, version.checksum, checksum)
-    value = text[HEADER.size + len(key):]
-    return b"VALUE %d\n" % len(value) + value + b"\n"
+    value, damage = value_of(it, key)
+    return damage or b"VALUE %d\n" % len(value) + value + b"\n"
+
+
+def listing_of(it):
+    """What `list` prints of an opened directory whose puts are always live, and its status. A record that is damaged ends it."""
+    lines = []
+    for key in sorted(it.versions):
+        value, damage = value_of(it, key)
+        if damage:
+            return 8, b"".join(lines) + damage
+        lines.append(b"PAIR %d %d\n" % (len(key), len(value)) + key + value + b"\n")
+    return 0, b"".join(lines) + b"END %d\n" % len(lines)
 
 
 def ended_by_gets(it, keys):

@@ -7,6 +7,7 @@ crate's out/ folder. Where there is none, `rt run` proves and builds it, once.
 import functools
 import os
 import pathlib
+import re
 import select
 import subprocess
 import tempfile
@@ -37,6 +38,12 @@ def program():
     if not built.exists():
         raise FileNotFoundError(f"{built}: run `rt ci` first")
     return str(built)
+
+
+@functools.lru_cache(maxsize=None)
+def commands():
+    """The commands that the program's help names."""
+    return set(re.findall(r"^  bitcaskd ([a-z]+)", run("--help").stdout.decode(), re.MULTILINE))
 
 
 def in_memory():
@@ -146,8 +153,12 @@ class StoreTest(unittest.TestCase):
     """A test with an empty folder of its own."""
 
     maxDiff = 2000
+    wants = ()  # the commands without which its tests are skipped
 
     def setUp(self):
+        for command in self.wants:
+            if command not in commands():
+                self.skipTest(f"the program has no `{command}` yet")
         folder = tempfile.TemporaryDirectory()
         self.addCleanup(folder.cleanup)
         self.folder = pathlib.Path(folder.name)
@@ -155,6 +166,17 @@ class StoreTest(unittest.TestCase):
     def pipe(self, given, **options):
         """Runs `pipe` over the test's folder to the end of the given input."""
         return run("pipe", str(self.folder), given=given, **options)
+
+    def command(self, word, *words, **options):
+        """Runs another command over the test's folder."""
+        return run(word, str(self.folder), *words, **options)
+
+    def make(self, files):
+        """Puts these files into the folder, in the place of those that are there."""
+        for path in self.folder.iterdir():
+            path.unlink()
+        for name, text in files.items():
+            (self.folder / name).write_bytes(text)
 
     def client(self, **options):
         """Starts `pipe` over the test's folder."""

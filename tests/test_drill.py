@@ -39,10 +39,7 @@ def with_sorted_pairs(lines):
 
 
 class DrillTest(StoreTest):
-    def setUp(self):
-        super().setUp()
-        if b"bitcaskd drill" not in run("--help").stdout:
-            self.skipTest("the program has no `drill` yet")
+    wants = ("drill",)
 
     def drill(self, script, **options):
         """Runs a script in an empty folder, and nothing is left there."""
