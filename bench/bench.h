@@ -5,11 +5,7 @@
 #include <string.h>
 #include <time.h>
 
-enum { KEY_BYTES = 16 };
-
-struct load {
-    size_t keys, value_bytes, puts, gets;
-};
+enum { KEY_BYTES = 16, HEADER_BYTES = 22, MOST_IN_FILE = 67108864 };
 
 static void fail(const char *why)
 {
@@ -26,9 +22,12 @@ static size_t number_of(const char *word)
     return number;
 }
 
-static struct load load_of(char **words)
+static void *taken(size_t count, size_t size)
 {
-    return (struct load){ number_of(words[0]), number_of(words[1]), number_of(words[2]), number_of(words[3]) };
+    void *it = calloc(count, size);
+    if (!it)
+        fail("no memory");
+    return it;
 }
 
 static double seconds(void)
@@ -51,14 +50,23 @@ static void write_value(unsigned char *to, size_t bytes, size_t i)
     memset(to, (int)('a' + i % 26), bytes);
 }
 
-/* Which key the get numbered i asks for: each in turn, far apart. */
-static size_t key_of(size_t i, size_t keys)
+/* Which key the operation numbered i is of, where they are shuffled: each once, far apart. */
+static size_t shuffled(size_t i, size_t keys)
 {
-    return (size_t)(i * UINT64_C(2654435761) % keys);
+    return (size_t)(i % keys * UINT64_C(2654435761) % keys);
 }
 
-static void report(const char *what, size_t operations, double took)
+/* A phase of a run: `fill`, `overwrite`, `get`, `delete` or `list`, and of how many keys. */
+struct phase {
+    const char *name;
+    size_t operations;
+};
+
+static struct phase phase_of(char *word, size_t keys)
 {
-    printf("%-12s %9.0f operations/s  (%zu in %.3f s)\n", what, (double)operations / took, operations, took);
-    fflush(stdout);
+    char *colon = strchr(word, ':');
+    if (!colon)
+        return (struct phase){ word, keys };
+    *colon = 0;
+    return (struct phase){ word, number_of(colon + 1) };
 }
