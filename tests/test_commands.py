@@ -194,11 +194,11 @@ class Fill(StoreTest):
         seed = int(os.environ.get("SEED", random.randrange(1 << 32)))
         print(f"(seed {seed})", end=" ", file=sys.stderr, flush=True)
         chance, lengths = random.Random(seed), set()
-        for number in range(20):
+        for number in range(15):
             folder = self.folder / str(number)
             folder.mkdir()
             with self.subTest(seed=seed, number=number), Client("fill", str(folder), "10000000") as client:
-                time.sleep(chance.uniform(0, 0.2))
+                time.sleep(chance.uniform(0, 0.05))
                 client.process.kill()
                 self.assertEqual(client.process.wait(SECONDS), -signal.SIGKILL)
                 files = {path.name: path.read_bytes() for path in folder.iterdir() if path.name != LOCK_FILE}
