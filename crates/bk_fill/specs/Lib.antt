@@ -1,0 +1,5 @@
+pub mod Pairs
+pub mod Making
+pub mod Putting
+pub mod Work
+pub mod Filling
