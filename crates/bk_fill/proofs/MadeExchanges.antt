@@ -1,6 +1,6 @@
 -- One exchange more of a command with its store.
 use Rattle.std.proofs.Common.{◌≡◌, ◌∙◌, ℕ, ◌+◌, Bool, false, List, [], ◌∷◌, ◌++◌, Option, Some, true, refl, sym, ap, subst}
-use Rattle.std.proofs.Common.{arith, inl, inr, IsTrue}
+use Rattle.std.proofs.Common.{◌⊎◌, arith, inl, inr, IsTrue}
 use Rattle.std.specs.Prelude.{is_some}
 use Rattle.std.specs.List.{AllByRecursion}
 use Rattle.std.proofs.lemmas.List.{append-nil, append_assoc}
@@ -21,11 +21,11 @@ use Rattle.bk_exchange.proofs.Events.{point_of-append}
 use Rattle.bk_exchange.proofs.OneCaller.{log_on, own_more}
 use Rattle.bk_exchange.proofs.Stretches.{served-append, steps-append}
 use Rattle.bk_exchange.proofs.Tries.{told-append}
-use Rattle.bk_exchange.specs.Answers.{own_calls}
+use Rattle.bk_exchange.specs.Answers.{OneCall, own_calls}
 use Rattle.bk_exchange.specs.Exchanges.{Exchange, IsExchange, asks_clock, moment_of, steps_of}
 use Rattle.bk_exchange.specs.OneThread.{IsOwn, MayBeTried, QuietCalls, one_if_quiet}
 use Rattle.bk_exchange.specs.Points.{Point, Said, events, heard, point_of, said}
-use Rattle.bk_exchange.specs.Refusals.{is_quit, may_refuse}
+use Rattle.bk_exchange.specs.Refusals.{Refuses, is_quit, may_refuse}
 use Rattle.bk_exchange.specs.Sessions.{AreServed}
 use Rattle.bk_exchange.specs.Writes.{told_by, told_writes}
 use Rattle.bk_fill.specs.Making.{AreMade}
@@ -172,6 +172,9 @@ entry_said e s caller is =
     let by : ℕ → Said → Entry = λ n t. entry_by n t.call t.answer in
     ap (λ (n : ℕ). by n (said e.call e.reply)) caller ∙ ap (by 0) is
 
+first_is : (a b : Reply) → a ∷ [] ≡ b ∷ [] → a ≡ b
+first_is a b is = cc is
+
 -- the caller's one call
 pub entry_called : (o : Opening) (p : Point) (step : Step) (call : Call) (answer : Answer) → step.entry.caller ≡ 0
     → own_calls (own_context o) (events p (step ∷ [])) ≡ said call answer ∷ []
@@ -181,3 +184,19 @@ entry_called o p step call answer caller is =
     (heard_said step.entry.call step.entry.reply (said call answer)
     (sym (calls_behind (own_context o) p [] step step.entry.call step.entry.reply tt
     (entry_said step.entry (said step.entry.call step.entry.reply) caller refl)) ∙ is))
+
+-- Where a reply is no refusal of the request, the one step of the request is the call whose answer the reply shows.
+pub entry_shown : (o : Opening) (p : Point) (request : Request) (step : Step) (call : Call) (answer : Answer)
+    (Shows : Answer → Reply → Type 0) (reply : Reply) → step.entry.caller ≡ 0
+    → ((a : Answer) (shown : Reply) → reply ≡ shown → Shows a shown → a ≡ answer)
+    → (may_refuse request reply ≡ true → ⊥)
+    → OneCall call Shows (own_calls (own_context o) (events p (step ∷ []))) (reply ∷ [])
+    ⊎ (Refuses (own_context o) request (events p (step ∷ [])) (reply ∷ []) ⊎ ⊥)
+    → step.entry ≡ entry_by 0 call answer
+entry_shown o p request step call answer Shows reply caller same never (inl one) =
+    entry_called o p step call one.answer caller one.called
+    ∙ ap (entry_by 0 call) (same one.answer one.reply (first_is reply one.reply one.lines) one.shows)
+entry_shown o p request step call answer Shows reply caller same never (inr (inl refuses)) =
+    absurd (never (subst (λ (l : Reply). may_refuse request l ≡ true)
+    (sym (first_is reply refuses.line refuses.lines)) refuses.may))
+entry_shown o p request step call answer Shows reply caller same never (inr (inr fails)) = absurd fails

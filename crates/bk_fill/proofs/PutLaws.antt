@@ -1,5 +1,6 @@
 -- The puts of a fill: how they begin, go on and end.
-use Rattle.std.proofs.Common.{◌≡◌, ◌∙◌, ℕ, ◌+◌, ◌^◌, ◌<◌, Bool, true, List, [], ◌∷◌, ◌++◌, length, Some, refl, sym, ap, subst}
+use Rattle.std.proofs.Common.{◌≡◌, ◌∙◌, ℕ, ◌+◌, ◌^◌, ◌<◌, Bool, List, [], ◌∷◌, ◌++◌}
+use Rattle.std.proofs.Common.{length, Some, refl, sym, ap, subst}
 use Rattle.std.proofs.Common.{arith, inl, inr, IsTrue, Ok, Err}
 use Rattle.std.specs.Prelude.{Result}
 use Rattle.std.proofs.lemmas.List.{append-nil, length-append}
@@ -19,9 +20,8 @@ use Rattle.bk_base.specs.declared.writes.Write.{Write}
 use Rattle.bk_exchange.specs.Answers.{ShowsPut}
 use Rattle.bk_exchange.specs.Exchanges.{Exchange, Replies, moment_of, steps_of}
 use Rattle.bk_exchange.specs.Points.{events, point_of}
-use Rattle.bk_exchange.specs.Refusals.{may_refuse}
 use Rattle.bk_exchange.specs.Writes.{put_of, told_by, told_writes}
-use Rattle.bk_fill.proofs.MadeExchanges.{entry_called, made_more, made_nothing, made_unasked, told_on}
+use Rattle.bk_fill.proofs.MadeExchanges.{entry_shown, made_more, made_nothing, made_unasked, told_on}
 use Rattle.bk_fill.proofs.PairTexts.{pair_fits}
 use Rattle.bk_fill.specs.Making.{AreMade}
 use Rattle.bk_fill.specs.Pairs.{key_at, put_at, value_at}
@@ -45,22 +45,12 @@ shown_put (numbered_answer n) (Numbered shown) seq is shows =
     ap numbered_answer (shows ∙ sym same)
 shown_put answer reply seq is shows = absurd shows
 
-first_is : (a b : Reply) → a ∷ [] ≡ b ∷ [] → a ≡ b
-first_is a b is = cc is
-
 put_entry : (o : Opening) (h : List Step) (now : Moment) (n : ℕ) (seq : Seq) (step : Step) → step.entry.caller ≡ 0
     → Replies (own_context o) (put_at n) now (events (point_of o h) (step ∷ [])) (Numbered seq ∷ [])
     → step.entry ≡ entry_by 0 (put_call (key_at n) (value_at n) now) (numbered_answer seq)
-put_entry o h now n seq step caller (inl one) =
-    let call = put_call (key_at n) (value_at n) now in
-    let answer = shown_put one.answer one.reply seq (first_is (Numbered seq) one.reply one.lines) one.shows in
-    entry_called o (point_of o h) step call one.answer caller one.called ∙ ap (entry_by 0 call) answer
-put_entry o h now n seq step caller (inr (inl refuses)) =
-    let line = first_is (Numbered seq) refuses.line refuses.lines in
-    let never : may_refuse (put_at n) (Numbered seq) ≡ true =
-    subst (λ (l : Reply). may_refuse (put_at n) l ≡ true) (sym line) refuses.may in
-    absurd (cc never)
-put_entry o h now n seq step caller (inr (inr fails)) = absurd fails
+put_entry o h now n seq step caller replied =
+    entry_shown o (point_of o h) (put_at n) step (put_call (key_at n) (value_at n) now) (numbered_answer seq) ShowsPut
+    (Numbered seq) caller (λ a shown is shows. shown_put a shown seq is shows) (λ never. cc never) replied
 
 -- ---- one put more
 

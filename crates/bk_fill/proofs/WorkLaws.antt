@@ -1,6 +1,6 @@
 -- The sync of a fill, and what the fill has done behind it.
-use Rattle.std.proofs.Common.{◌≡◌, ◌∙◌, ℕ, Bool, true, false, List, [], ◌∷◌, ◌++◌, None, refl, sym, ap, subst}
-use Rattle.std.proofs.Common.{inl, inr, IsTrue}
+use Rattle.std.proofs.Common.{◌≡◌, ◌∙◌, ℕ, Bool, false, List, [], ◌∷◌, ◌++◌, None, refl, sym, ap, subst}
+use Rattle.std.proofs.Common.{IsTrue}
 use Rattle.std.specs.Prelude.{◌-◌, Result, Ok, Err, IfOk, OnOk, OnErr}
 use Rattle.std.proofs.lemmas.List.{append-nil}
 use Rattle.bk_base.specs.declared.calls.Answer.{Answer}
@@ -20,8 +20,7 @@ use Rattle.bk_disk.specs.Told.{Told, untold}
 use Rattle.bk_exchange.specs.Answers.{ShowsSync, map_size}
 use Rattle.bk_exchange.specs.Exchanges.{Exchange, Replies, steps_of}
 use Rattle.bk_exchange.specs.Points.{events, point_of}
-use Rattle.bk_exchange.specs.Refusals.{may_refuse}
-use Rattle.bk_fill.proofs.MadeExchanges.{entry_called, made_more, told_on}
+use Rattle.bk_fill.proofs.MadeExchanges.{entry_shown, made_more, told_on}
 use Rattle.bk_exchange.specs.Writes.{told_writes}
 use Rattle.bk_fill.proofs.PutLaws.{told_by_puts}
 use Rattle.bk_fill.specs.declared.work.Work.{Work}
@@ -56,21 +55,12 @@ shown_sync (numbered_answer n) (Synced shown) seq is shows =
     ap numbered_answer (shows ∙ sym same)
 shown_sync answer reply seq is shows = absurd shows
 
-first_is : (a b : Reply) → a ∷ [] ≡ b ∷ [] → a ≡ b
-first_is a b is = cc is
-
 sync_entry : (o : Opening) (h : List Step) (now : Moment) (seq : Seq) (step : Step) → step.entry.caller ≡ 0
     → Replies (own_context o) Sync now (events (point_of o h) (step ∷ [])) (Synced seq ∷ [])
     → step.entry ≡ entry_by 0 sync_call (numbered_answer seq)
-sync_entry o h now seq step caller (inl one) =
-    let answer = shown_sync one.answer one.reply seq (first_is (Synced seq) one.reply one.lines) one.shows in
-    entry_called o (point_of o h) step sync_call one.answer caller one.called ∙ ap (entry_by 0 sync_call) answer
-sync_entry o h now seq step caller (inr (inl refuses)) =
-    let line = first_is (Synced seq) refuses.line refuses.lines in
-    let never : may_refuse Sync (Synced seq) ≡ true =
-    subst (λ (l : Reply). may_refuse Sync l ≡ true) (sym line) refuses.may in
-    absurd (cc never)
-sync_entry o h now seq step caller (inr (inr fails)) = absurd fails
+sync_entry o h now seq step caller replied =
+    entry_shown o (point_of o h) Sync step sync_call (numbered_answer seq) ShowsSync (Synced seq) caller
+    (λ a shown is shows. shown_sync a shown seq is shows) (λ never. cc never) replied
 
 -- ---- what a crash takes
 
