@@ -218,6 +218,18 @@ def odd_lists(files):
     return [name for name in names if listed(files[name]) is None]
 
 
+def reply_to_sync(it):
+    """The reply to a sync of an opened directory."""
+    return b"SYNCED %d\n" % it.last_seq
+
+
+def reply_to_stat(it):
+    """The reply to STAT over an opened directory."""
+    total = sum(found.total for found in it.found.values())
+    live = sum(version.size for version in it.versions.values())
+    return b"STAT %d %d %d %d\n" % (len(it.versions), len(it.found), total, live)
+
+
 def value_of(it, key):
     """The value of a key of an opened directory, or the line that says that its record is damaged."""
     version = it.versions[key]

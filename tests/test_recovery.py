@@ -9,7 +9,8 @@ import tempfile
 import unittest
 
 from directories import (
-    LARGEST_ID, LAST_SEQ, ended_by_gets, hint_of, list_of, name_of, named, numbers_of, opened, record_of, scanned,
+    LARGEST_ID, LAST_SEQ, ended_by_gets, hint_of, list_of, name_of, named, numbers_of, opened, record_of, reply_to_stat,
+    reply_to_sync, scanned,
 )
 from support import LOCK_FILE, get, in_memory, numbered, parsed, put, run
 
@@ -155,8 +156,8 @@ class Directories(unittest.TestCase):
         it = opened(files)
         self.make(files)
         status, output = ended_by_gets(it, [*KEYS, b"a key that no directory has"])
-        ended = run("pipe", str(self.folder), given=GETS)
-        self.assertEqual((ended.returncode, ended.stdout), (status, output))
+        ended = run("pipe", str(self.folder), given=GETS + b"SYNC\nSTAT\n")
+        self.assertEqual((ended.returncode, ended.stdout), (status, output + reply_to_sync(it) + reply_to_stat(it)))
         self.assertEqual(self.left(), it.files)
         self.check_put(it.files)
 
