@@ -8,6 +8,7 @@ import unittest
 from support import StoreTest, run
 
 PAGE = pathlib.Path(__file__).resolve().parent.parent / "docs" / "man" / "bitcaskd.1"
+HEADS = ("Usage:", "Requests\\.", "Replies to", "The report of", "Exit status")  # of the parts of the help
 MACROS = re.compile(r"^\.[A-Z][a-z]\b|\b(?:Cm|Ar|Ic)\b")
 
 
@@ -86,6 +87,11 @@ def names(lines):
     return [line.split("  ")[1] for line in lines if re.match("  [^ ]", line)]
 
 
+def words(lines):
+    """The words in capitals in these lines."""
+    return set(re.findall(r"\b[A-Z]{2,}\b", " ".join(lines)))
+
+
 class Page(unittest.TestCase):
     """The page has the commands, the requests, the replies and the statuses of the help, and no others."""
 
@@ -93,10 +99,12 @@ class Page(unittest.TestCase):
 
     def setUp(self):
         self.page, self.help = PAGE.read_text(), run("--help").stdout.decode()
-        part, self.usage, self.requests, self.refusals, self.statuses = (
-            it.splitlines() for it in re.split("^(?:Usage:|Requests\\.|Replies to|Exit status)", self.help, flags=re.MULTILINE)
-        )
-        self.assertTrue(part)
+        self.usage, self.requests, self.refusals, self.report, self.statuses = map(self.part, HEADS)
+
+    def part(self, head):
+        """The lines of the help from the one that begins so to the next that begins a part."""
+        found = re.search(f"^{head}.*?(?=^(?:{'|'.join(HEADS)})|\\Z)", self.help, re.MULTILINE | re.DOTALL)
+        return found[0].splitlines() if found else []
 
     def test_commands(self):
         commands = names(self.usage)
@@ -110,9 +118,13 @@ class Page(unittest.TestCase):
     def test_replies(self):
         refusals = set(names(self.refusals)) | set(re.findall("FULL [a-z]+", self.help))
         self.assertEqual(set(items(section(self.page, "Refusals"))), {it.partition(":")[0] for it in refusals})
-        page = " ".join(map(plain, section(self.page, "Requests") + section(self.page, "Refusals")))
-        words = " ".join(self.requests + self.refusals)
-        self.assertEqual(set(re.findall(r"\b[A-Z]{2,}\b", page)), set(re.findall(r"\b[A-Z]{2,}\b", words)))
+        page = map(plain, section(self.page, "Requests") + section(self.page, "Refusals"))
+        self.assertEqual(words(page), words(self.requests + self.refusals))
+
+    def test_report(self):
+        page = section(self.page, "REPORT")
+        self.assertEqual({it.split()[0] for it in items(page)}, words(self.report) - {"GOOD"})
+        self.assertLessEqual(words(self.report), words(map(plain, page)))
 
     def test_statuses(self):
         statuses = [" ".join(it.groups("")).strip() for it in map(re.compile(r" {2,3}(\d+)(?:  (\w+))?  ").match, self.statuses) if it]
