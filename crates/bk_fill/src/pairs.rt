@@ -27,5 +27,6 @@ pub(crate) fn pair_at(alloc: Global, number: u32) -> Result<Prepared, Memory>
     ensures few { IfOk result (λ pair. length pair.key + length pair.value ≤ 79) }
 {
     let key = key_at(alloc, number)?;
+    // No number has so many digits that they are too long for a value.
     Prepared::new(alloc, key, Digits::of(number.into()).as_slice()).map_err(|_| Memory)
 }
