@@ -1,3 +1,5 @@
 pub mod Lines
 pub mod Script
+pub mod Words
+pub mod Front
 pub mod Printed

@@ -1,12 +1,12 @@
 -- The lines of a script: their texts, and what stands at the front of a script.
-use Rattle.std.specs.Prelude.{◌≡◌, ℕ, ◌+◌, ◌^◌, ◌<◌, ◌≤◌, List, [], ◌∷◌, ◌++◌, length, map, codes, Option, Some, None}
+use Rattle.std.specs.Prelude.{ℕ, ◌+◌, ◌^◌, ◌<◌, ◌≤◌, List, [], ◌∷◌, length, map, codes, Option, Some, None}
 use Rattle.std.specs.Fmt.{decimal}
 use Rattle.std.specs.List.{All, join_with_byte}
 use Rattle.bk_base.specs.declared.limits.TheConstants.{LONGEST_VALUE}
 use Rattle.bk_laws.specs.Wire.{line}
 use Rattle.bk_policy.specs.Settings.{least, greatest}
 use Rattle.bk_policy.specs.declared.names.SettingName.TheVariants.{MaxFile, Ttl as ttl_setting}
-use Rattle.bk_script.specs.declared.limits.TheConstants.{LONGEST_LINE, LONGEST_WORD, MOST_LINES}
+use Rattle.bk_script.specs.declared.limits.TheConstants.{LONGEST_WORD}
 use Rattle.bk_script.specs.declared.lines.Line.{Line}
 use Rattle.bk_script.specs.declared.lines.Line.TheVariants.{Max, Ttl, At, Fail, Fuse, By, Stop}
 use Rattle.bk_script.specs.declared.lines.Action.{Action}
@@ -30,18 +30,18 @@ keep_word None = codes "all"
 keep_word (Some keep) = decimal keep
 
 -- the words of a line; actor 1 is the letter a, which is 97
-abbrev pub words : Line → List (List ℕ)
-words (Max n) = codes "max" ∷ decimal n ∷ []
-words (Ttl n) = codes "ttl" ∷ decimal n ∷ []
-words (At now) = codes "at" ∷ decimal now.0 ∷ []
-words (Fail nth effect) = codes "fail" ∷ decimal nth ∷ decimal effect ∷ []
-words (Fuse calls effect) = codes "fuse" ∷ decimal calls ∷ decimal effect ∷ []
-words (By actor action) = (96 + actor.0 ∷ []) ∷ action_words action
-words (Stop keep flips) = codes "stop" ∷ keep_word keep ∷ map decimal flips
+abbrev pub line_words : Line → List (List ℕ)
+line_words (Max n) = codes "max" ∷ decimal n ∷ []
+line_words (Ttl n) = codes "ttl" ∷ decimal n ∷ []
+line_words (At now) = codes "at" ∷ decimal now.0 ∷ []
+line_words (Fail nth effect) = codes "fail" ∷ decimal nth ∷ decimal effect ∷ []
+line_words (Fuse calls effect) = codes "fuse" ∷ decimal calls ∷ decimal effect ∷ []
+line_words (By actor action) = ((96 + actor.0) ∷ []) ∷ action_words action
+line_words (Stop keep flips) = codes "stop" ∷ keep_word keep ∷ map decimal flips
 
 -- the text of a line: its words with one space, 32, between each two, and a line feed
 abbrev pub line_text : Line → List ℕ
-line_text l = line (join_with_byte 32 (words l))
+line_text l = line (join_with_byte 32 (line_words l))
 
 -- ---- which lines there are
 

@@ -30,12 +30,16 @@ is_setting (Max n) = true
 is_setting (Ttl n) = true
 is_setting line = false
 
+-- there are at most 65,536 lines, and settings come first
+pub record Allows (script : Script) (line : Line) : Type 0 where
+  pub numbered : script.lines < MOST_LINES
+  pub settings_first : script.begun ≡ true → is_setting line ≡ false
+
 -- the line is the next of the script, and the rest follows it
 pub record StandsNext (script : Script) (line : Line) (rest : List ℕ) : Type 0 where
   pub fits : Fits line
   pub short : length (line_text line) ≤ LONGEST_LINE
-  pub numbered : script.lines < MOST_LINES
-  pub settings_first : script.begun ≡ true → is_setting line ≡ false
+  pub allowed : Allows script line
   pub whole : script.rest ≡ line_text line ++ rest
 
 -- no line is the next

@@ -28,7 +28,7 @@ impl Flips {
 
     /// The offsets, in the order of their words.
     pub fn into_offsets(self) -> Vec<u64>
-        ensures { result.items ≡ self.entry }
+        ensures { result.items ≡ self }
     {
         self.offsets
     }

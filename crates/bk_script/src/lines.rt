@@ -1,4 +1,6 @@
 //! What the lines of a script say.
+ghost use Rattle.std.specs.Prelude.{◌≡◌};
+ghost use Rattle.bk_script.specs.Script.{is_setting};
 
 use crate::actors::Actor;
 use crate::flips::Flips;
@@ -22,6 +24,15 @@ pub enum Line {
     /// `stop KEEP` and offsets: a crash leaves so many bytes of what wasn't synced, all for `None`,
     /// and changes the bytes at these offsets.
     Stop { keep: Option<u64>, flips: Flips },
+}
+
+impl Line {
+    /// Whether the line is a setting: these stand before all others.
+    pub(crate) fn is_setting(&self) -> bool
+        ensures { result ≡ is_setting self.now }
+    {
+        matches!(self, Line::Max(_) | Line::Ttl(_))
+    }
 }
 
 /// What an actor does.
