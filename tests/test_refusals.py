@@ -26,11 +26,12 @@ NO_REQUEST = [
 
 
 class Words(StoreTest):
-    def test_words_that_are_not_pipe_and_a_folder(self):
+    def test_words_that_are_no_command(self):
         here = str(self.folder)
         for words in (
             [], ["frob", here], ["pipe"], ["pipe", here, here], ["pipe", ""], [""], ["Pipe", here], ["pipe ", here],
-            [here], [here, "pipe"], ["fill", here, "10"], ["list", here], ["merge", here], ["check", here], ["drill"],
+            [here], [here, "pipe"], ["fill", here, "10"], ["list", here], ["merge", here], ["check", ""], ["check", here, here],
+            ["drill"],
             ["--help", here], ["--version", "--help"], ["-h"], ["help"], ["pipe", "--help", here],
         ):
             with self.subTest(words=words):

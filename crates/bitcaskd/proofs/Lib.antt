@@ -1,3 +1,5 @@
+pub mod CheckingLaws
 pub mod ClosingLaws
 pub mod OpeningLaws
 pub mod RunLaws
+pub mod WordLaws

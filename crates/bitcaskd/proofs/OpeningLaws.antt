@@ -28,7 +28,9 @@ use Rattle.bk_store.specs.Shown.{Shown}
 use Rattle.bk_store.specs.Standing.{StandsFor}
 use Rattle.bk_store.specs.Starting.{opening_of}
 use Rattle.bitcaskd.specs.Opening.{IsCauseOf, IsRefused, KeepsLog, Opens, SaysSettings, files_seen, of_open, of_settings}
-use Rattle.bitcaskd.specs.Run.{MayEnd, OpensAt}
+use Rattle.bitcaskd.specs.Commands.{MayEnd}
+use Rattle.bitcaskd.specs.Run.{OpensAt}
+use Rattle.bitcaskd.specs.declared.command.Command.TheVariants.{Pipe}
 
 -- ---- crashes
 
@@ -53,7 +55,7 @@ keeps_log t u log goes well sound = record {
 
 -- ---- what the calls of an opening make of a disk
 
-Rose-further : (first before now : ℕ) → first ≤ before → Rose before now → Rose first now
+pub Rose-further : (first before now : ℕ) → first ≤ before → Rose before now → Rose first now
 Rose-further first before now early rose = omega arith
 
 pub settings_came : (tells : Bool) (was now : Seen) (len : ℕ) (r : Result StoreSettings LoadSettings) → Loads was now r
@@ -123,10 +125,10 @@ pub rose_in_run : (tells : Bool) (was : Seen) (store : Shown) (faults : ℕ) →
 rose_in_run tells was store faults opens rose =
     Rose-further was.faults store.files.faults faults opens.came.faults rose
 
-pub refused_ends : (tells : Bool) (was now : Seen) (status : Status) → IsRefused tells was now status → MayEnd status
+pub refused_ends : (tells : Bool) (was now : Seen) (status : Status) → IsRefused tells was now status → MayEnd Pipe status
 refused_ends tells was now status refused = go status refused.cause
   where
-    go : (s : Status) → IsCauseOf s tells was now → MayEnd s
+    go : (s : Status) → IsCauseOf s tells was now → MayEnd Pipe s
     go Settings is = tt
     go Disk is = tt
     go Memory is = tt

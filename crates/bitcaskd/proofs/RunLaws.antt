@@ -1,5 +1,5 @@
--- The words of a run, and from a session and the sync behind it to the whole run.
-use Rattle.std.proofs.Common.{◌≡◌, ◌∙◌, ◌⊎◌, ℕ, ◌+◌, ◌<◌, ◌≤◌, List, [], ◌∷◌, Bool, true, false, drop, length, get_or}
+-- From a session and the sync behind it to the whole run.
+use Rattle.std.proofs.Common.{◌≡◌, ◌∙◌, ◌⊎◌, ℕ, ◌+◌, ◌≤◌, List, [], Bool, true, false, drop}
 use Rattle.std.proofs.Common.{refl, sym, subst, arith, inl, inr, IsTrue}
 use Rattle.bk_base.specs.declared.histories.Opening.{Opening}
 use Rattle.bk_base.specs.declared.statuses.SessionEnd.{SessionEnd}
@@ -28,16 +28,6 @@ use Rattle.bitcaskd.specs.Opening.{IsRested, Opens}
 use Rattle.bitcaskd.specs.Run.{IsOpenedBy, IsRun, Outside, Telling, client_tells, most_taken, seen_in}
 use Rattle.bitcaskd.proofs.ClosingLaws.{last_step, sync_rose}
 use Rattle.bitcaskd.proofs.OpeningLaws.{opens_at}
-
--- ---- words
-
--- a list of two
-pub two_words : {A : Type 0} (xs : List A) (v d : A) → 2 ≤ length xs → length xs < 3
-    → v ≡ get_or xs 0 v → d ≡ get_or xs 1 d → xs ≡ v ∷ d ∷ []
-two_words [] v d low high first second = absurd (omega arith)
-two_words (x ∷ []) v d low high first second = absurd (omega arith)
-two_words (x ∷ y ∷ []) v d low high first second = cc
-two_words (x ∷ y ∷ z ∷ zs) v d low high first second = absurd (omega arith)
 
 -- ---- the opening
 

@@ -1,5 +1,5 @@
 -- What one run of `pipe` does, from the bytes of its source to the bytes of its sink.
-use Rattle.std.specs.Prelude.{◌≡◌, ◌⊎◌, ℕ, ◌<◌, ◌≤◌, List, [], ◌∷◌, ◌++◌, Bool, IsTrue, Some, length, drop, sum_by, codes}
+use Rattle.std.specs.Prelude.{◌≡◌, ◌⊎◌, ℕ, ◌<◌, ◌≤◌, List, [], ◌∷◌, ◌++◌, Bool, IsTrue, Some, length, drop, sum_by}
 use Rattle.std.specs.Prelude.{false}
 use Rattle.bk_base.specs.declared.limits.TheConstants.{LONGEST_SESSION}
 use Rattle.bk_base.specs.declared.numbers.Moment.{Moment}
@@ -8,7 +8,6 @@ use Rattle.bk_base.specs.declared.histories.Step.{Step}
 use Rattle.bk_base.specs.declared.calls.Call.TheVariants.{Sync, Quiet}
 use Rattle.bk_base.specs.declared.statuses.SessionEnd.{SessionEnd}
 use Rattle.bk_base.specs.declared.statuses.Status.{Status}
-use Rattle.bk_base.specs.declared.statuses.Status.TheVariants.{Done, Memory, Disk, Source, Sink, Syntax, Settings, Long}
 use Rattle.bk_base.specs.declared.writes.Write.{Write}
 use Rattle.bk_disk.specs.Counts.{Counted}
 use Rattle.bk_disk.specs.Crashes.{MayLeaveNow, fronts_at}
@@ -120,18 +119,6 @@ Closes known t log end status step =
     (IsSync known t log step × (status ≡ status_of end))
     ⊎ (IsFailedSync step × (status ≡ if_unsynced (status_of end)))
 
--- the statuses that a run may end with, whose words are those of `pipe`
-abbrev pub MayEnd : Status → Type 0
-MayEnd Done = Unit {0}
-MayEnd Memory = Unit {0}
-MayEnd Disk = Unit {0}
-MayEnd Source = Unit {0}
-MayEnd Sink = Unit {0}
-MayEnd Syntax = Unit {0}
-MayEnd Settings = Unit {0}
-MayEnd Long = Unit {0}
-MayEnd status = ⊥
-
 -- ---- what the disk is left with
 
 -- The directory has the map of the log, or of the log and the write that was tried. Each image that
@@ -212,10 +199,6 @@ pub record IsRun (tells : Telling) (old new : Outside) (status : Status) (log : 
 abbrev pub Runs : Telling → Outside → Outside → Status → Type 0
 Runs tells old new status = (log : List Write) (whole : Bool)
     → (IsTrue whole → IsTrue tells.disk × IsSoundDisk old.told log) → IsRun tells old new status log whole
-
--- The words are those of `pipe` with a directory.
-abbrev pub IsPipe : List (List ℕ) → Type 0
-IsPipe words = (dir : List ℕ) × (words ≡ codes "pipe" ∷ dir ∷ []) × (0 < length dir)
 
 -- The directory wasn't opened: nothing was read or written, and no moment was asked for. Whatever log the
 -- directory held, it still holds.

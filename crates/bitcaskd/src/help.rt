@@ -7,6 +7,7 @@ bitcaskd keeps keys and values in a folder, in files that are only appended to.
 
 Usage:
   bitcaskd pipe DIR    answers the requests on standard input, on standard output
+  bitcaskd check DIR   reports what the data files in DIR hold
   bitcaskd --help      prints this text
   bitcaskd --version   prints the version
 
@@ -41,8 +42,14 @@ The last line is SYNTAX and an offset where no request stands at this offset of 
 
 All writes are synced as the run ends, whatever ends it.
 
+The report of 'check' has, for each data file in order of number, FILE and its number, its length, the
+bytes of its whole records, and the bytes of those that are the newest records of keys; TORN, its number,
+and where and how many bytes more than records it has, if it has any; and HINT, its number, and GOOD or
+what is wrong with its hint, if it has one. ODD names a list of a merge that can't be read. The last line
+is CHECKED, the number of the data files, and of those that are torn.
+
 Exit status, with its word on standard error:
-   0             the input was read to its end, or to QUIT
+   0             the input was read to its end or to QUIT, or the work is done
    1  memory     an allocation was refused
    2  words      the words are none of the above
    3  directory  DIR or its lock file can't be opened. Behind the word stands the reason: 'not
@@ -50,8 +57,8 @@ Exit status, with its word on standard error:
                  many open files', 'the lock file is not a regular file', or 'system error' and
                  its number
    3  lock       another process has DIR
-   3  disk       a file of DIR could not be read or written while the store was opened or at the
-                 last sync, or is not a regular file
+   3  disk       a file of DIR could not be read or written while the store was opened or checked, or
+                 at the last sync, or is not a regular file
    4  source     standard input could not be read
    5  sink       standard output could not be written
    6  syntax     the input has something that is no request, or ends within one

@@ -3,7 +3,9 @@
 //! `run` is the program; `main` gives it the words, the folder, the streams and the clock.
 #![tactic(auto)]
 
+mod checking;
 mod closing;
+mod command;
 mod help;
 mod opening;
 mod run;
@@ -12,7 +14,8 @@ mod tests;
 
 use bk_base::{Memory, Status};
 use bk_osdisk::{OsClock, OsDisk, OsRefused, OsSink, OsSource};
-use run::{Ended, directory_of, run};
+use command::directory_of;
+use run::{Ended, run};
 use std::env;
 use std::io::{ErrorKind, Print};
 use std::process::ExitCode;

@@ -32,7 +32,7 @@ pub fn open_store<D: Disk>(alloc: Global, mut disk: D) -> Result<Store<D>, (D, S
 }
 
 /// The status of a run without settings.
-fn of_settings(error: LoadSettings) -> Status
+pub fn of_settings(error: LoadSettings) -> Status
     ensures { result ≡ of_settings error }
 {
     match error {

@@ -1,12 +1,18 @@
 //! The program: from its words, a disk and two streams to a status.
-ghost use Rattle.std.specs.Prelude.{◌≡◌, ◌⊎◌, ◌↔◌, ◌<◌, Some, IsTrue, IsSome, length, map, string_bytes};
+ghost use Rattle.std.specs.Prelude.{◌≡◌, ◌⊎◌, IsTrue, map, string_bytes};
 ghost use Rattle.bk_disk.specs.Causes.{Rose};
 ghost use Rattle.bk_load.specs.Courses.{Seen};
 ghost use Rattle.bk_load.specs.Tidying.{NoneLent};
+ghost use Rattle.bitcaskd.specs.Commands.{Does, MayEnd};
 ghost use Rattle.bitcaskd.specs.Opening.{IsRested, Opens};
-ghost use Rattle.bitcaskd.specs.Run.{IsPipe, MayEnd, Refuses, Runs, outside, telling};
+ghost use Rattle.bitcaskd.specs.Run.{Refuses, Runs, outside, telling};
+ghost use Rattle.bitcaskd.specs.Words.{AsksFor, IsCommand};
+ghost use Rattle.bitcaskd.specs.declared.command.Command.{Command};
+ghost use Rattle.bitcaskd.specs.declared.command.Command.TheVariants.{Pipe};
 
+use crate::checking::check;
 use crate::closing::{close, status_of};
+use crate::command::{Command, command_of};
 use crate::opening::open_store;
 use bk_base::Status;
 use bk_base::limits::LONGEST_SESSION;
@@ -19,18 +25,6 @@ use std::alloc::Global;
 pub struct Ended<D> {
     pub disk: D,
     pub status: Status,
-}
-
-/// Which word is the directory: the second, for the words of `pipe`.
-pub fn directory_of(words: &[String]) -> Option<usize>
-    ensures pipe { IsSome result ↔ IsPipe (map string_bytes words.now) }
-    ensures second { IsSome result → result ≡ Some 1 }
-    ensures inside { IsSome result → 1 < length words.now }
-{
-    match words {
-        [verb, dir] if verb.as_str() == "pipe" && !dir.is_empty() => Some(1),
-        _ => None,
-    }
 }
 
 /// Runs over a disk: it is opened, and a session is held.
@@ -49,7 +43,7 @@ fn over_disk<D: Disk, S: Source, K: Sink, C: Clock>(
         (D.fallible_outs result.disk) (S.whole source.new) (S.taken source.new) (K.written sink.new) (K.faults sink.new)
         (C.moments clock.new) in
         Refuses tells old new result.status ⊎ Runs tells old new result.status }
-    ensures ends { MayEnd result.status }
+    ensures ends { MayEnd Pipe result.status }
     ensures disk { result.status ≡ Status.Disk → Rose (D.faults disk) (D.faults result.disk)
         ⊎ Rose (D.fallible_views disk) (D.fallible_views result.disk) }
     ensures source { result.status ≡ Status.Source
@@ -77,7 +71,7 @@ fn over_store<D: Disk, S: Source, K: Sink, C: Clock>(
         (outside (D.told result.disk) (D.faults result.disk) (D.fallible_views result.disk)
         (D.fallible_outs result.disk) (S.whole source.new) (S.taken source.new) (K.written sink.new) (K.faults sink.new)
         (C.moments clock.new)) result.status }
-    ensures ends { MayEnd result.status }
+    ensures ends { MayEnd Pipe result.status }
     ensures disk { result.status ≡ Status.Disk → Rose store.files.faults (D.faults result.disk) }
     ensures source { result.status ≡ Status.Source
         → Rose (S.faults source.old) (S.faults source.new) }
@@ -91,9 +85,8 @@ fn over_store<D: Disk, S: Source, K: Sink, C: Clock>(
     }
 }
 
-/// Runs `pipe`: opens the directory, whatever a crash left of it, holds a session with the client behind
-/// the source and the sink, and syncs all writes. The status says how it ended, and all that it did is one
-/// history of a map.
+/// Does what the words ask for, over a directory in any state that a crash may leave. The status says how it
+/// ended. A session and the sync behind it are one history of a map.
 pub fn run<D: Disk, S: Source, K: Sink, C: Clock>(
     alloc: Global,
     words: &[String],
@@ -104,34 +97,33 @@ pub fn run<D: Disk, S: Source, K: Sink, C: Clock>(
 ) -> Ended<D>
     requires { IsTrue D.tells → NoneLent (D.told disk).fronts }
 
-    // Words that aren't those of `pipe` are refused before anything is touched.
-    ensures words { ¬ (IsPipe (map string_bytes words.now)) → result.status ≡ Status.Words }
-    ensures disk_same { ¬ (IsPipe (map string_bytes words.now)) → result.disk ≡ disk }
-    ensures source_same { ¬ (IsPipe (map string_bytes words.now)) → source.new ≡ source.old }
-    ensures sink_same { ¬ (IsPipe (map string_bytes words.now)) → sink.new ≡ sink.old }
-    ensures clock_same { ¬ (IsPipe (map string_bytes words.now)) → clock.new ≡ clock.old }
+    // Words that aren't those of a command are refused before anything is touched.
+    ensures words { ¬ (IsCommand (map string_bytes words.now)) → result.status ≡ Status.Words }
+    ensures disk_same { ¬ (IsCommand (map string_bytes words.now)) → result.disk ≡ disk }
+    ensures source_same { ¬ (IsCommand (map string_bytes words.now)) → source.new ≡ source.old }
+    ensures sink_same { ¬ (IsCommand (map string_bytes words.now)) → sink.new ≡ sink.old }
+    ensures clock_same { ¬ (IsCommand (map string_bytes words.now)) → clock.new ≡ clock.old }
 
-    // Otherwise the directory isn't opened, or the run is one history, from the bytes read to the bytes
-    // written.
+    // Otherwise the directory isn't opened, or the run does what the command says.
     ensures ran { let tells = telling D.tells S.tells K.tells C.tells in
         let old = outside (D.told disk) (D.faults disk) (D.fallible_views disk) (D.fallible_outs disk)
         (S.whole source.old) (S.taken source.old) (K.written sink.old) (K.faults sink.old) (C.moments clock.old) in
         let new = outside (D.told result.disk) (D.faults result.disk) (D.fallible_views result.disk)
         (D.fallible_outs result.disk) (S.whole source.new) (S.taken source.new) (K.written sink.new) (K.faults sink.new)
         (C.moments clock.new) in
-        IsPipe (map string_bytes words.now)
-        → Refuses tells old new result.status ⊎ Runs tells old new result.status }
+        (command : Command) → AsksFor command (map string_bytes words.now) → Does command tells old new result.status }
 
     // Each status other than `Done` has its cause; `Memory` alone is free.
-    ensures ends { IsPipe (map string_bytes words.now) → MayEnd result.status }
+    ensures ends { (command : Command) → AsksFor command (map string_bytes words.now) → MayEnd command result.status }
     ensures disk { result.status ≡ Status.Disk → Rose (D.faults disk) (D.faults result.disk)
         ⊎ Rose (D.fallible_views disk) (D.fallible_views result.disk) }
     ensures source { result.status ≡ Status.Source
         → Rose (S.faults source.old) (S.faults source.new) }
     ensures sink { result.status ≡ Status.Sink → Rose (K.faults sink.old) (K.faults sink.new) }
 {
-    match directory_of(words) {
-        Some(_) => over_disk(alloc, disk, source, sink, clock),
+    match command_of(words) {
+        Some(Command::Pipe) => over_disk(alloc, disk, source, sink, clock),
+        Some(Command::Check) => check(alloc, disk, sink),
         None => Ended {
             disk,
             status: Status::Words,

@@ -177,8 +177,16 @@ fn largest(rt: HostRuntime) -> Result<(), Fail> {
 
 const GET: &[u8] = b"GET 1\na\n";
 
-/// Words that no line of the program's table reads.
-const NO_WORDS: [&[&str]; 4] = [&["pipe"], &["fill", "d", "01"], &["frob", "d"], &[]];
+/// Words that are no command's.
+const NO_WORDS: [&[&str]; 7] = [
+    &["pipe"],
+    &["check", ""],
+    &["check", "d", "d"],
+    &["fill", "d", "01"],
+    &["frob", "d"],
+    &["Pipe", "d"],
+    &[],
+];
 
 #[test]
 fn words_that_are_refused(rt: HostRuntime) -> Result<(), Fail> {
@@ -331,5 +339,54 @@ fn a_run_after_a_crash(rt: HostRuntime) -> Result<(), Fail> {
     let disk = crashed(&rt, rt.alloc(), two_puts(rt.alloc())?);
     let left = piped(rt.alloc(), disk, b"GET 1\na\nGET 1\nb\n", 1_000, None)?;
     assert!(rt; left.is(b"VALUE 1\n1\nNONE\n", Status::Done));
+    Ok(())
+}
+
+/// What `check` writes of the directory, and its status.
+fn checked(alloc: Global, disk: MemDisk, sink_fails: Option<u64>) -> Result<Left, AllocError>
+    requires { NoneLent (told_by disk).fronts }
+{
+    let source = MemSource::new(Vec::new(alloc), None, 1);
+    match MemSink::new(alloc, 1_000, sink_fails) {
+        Ok(sink) => run_of(alloc, &["check", "d"], disk, source, sink),
+        Err(_) => Err(AllocError),
+    }
+}
+
+#[test]
+fn a_check_of_an_empty_directory(rt: HostRuntime) -> Result<(), Fail> {
+    let left = checked(rt.alloc(), MemDisk::new(rt.alloc()), None)?;
+    assert!(rt; left.is(b"CHECKED 0 0\n", Status::Done));
+    Ok(())
+}
+
+#[test]
+fn a_check_of_a_torn_file(rt: HostRuntime) -> Result<(), Fail> {
+    let mut bytes = RECORD.to_vec(rt.alloc())?;
+    bytes.extend_from_slice(&[0; 48])?;
+    let disk = with_file(rt.alloc(), DATA_FILE, &bytes)?;
+    let left = checked(rt.alloc(), disk, None)?;
+    assert!(rt;
+        left.is(
+            b"FILE 1 72 24 24\nTORN 1 24 48\nCHECKED 1 1\n",
+            Status::Done
+        )
+    );
+    Ok(())
+}
+
+#[test]
+fn a_check_whose_sink_fails(rt: HostRuntime) -> Result<(), Fail> {
+    let left = checked(rt.alloc(), MemDisk::new(rt.alloc()), Some(1))?;
+    assert!(rt; left.is(b"", Status::Sink));
+    Ok(())
+}
+
+#[test]
+fn a_check_whose_disk_fails(rt: HostRuntime) -> Result<(), Fail> {
+    let mut disk = MemDisk::new(rt.alloc());
+    assert!(rt; disk.fail(2, 0).is_ok());
+    let left = checked(rt.alloc(), disk, None)?;
+    assert!(rt; left.is(b"", Status::Disk));
     Ok(())
 }

@@ -1,1 +1,3 @@
+pub mod Directory
+pub mod Errors
 pub mod Report

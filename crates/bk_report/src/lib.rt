@@ -2,9 +2,13 @@
 #![tactic(auto)]
 
 mod appending;
+mod directory;
+mod errors;
 mod lines;
 mod report;
 
+pub use directory::report_directory;
+pub use errors::ReportError;
 pub use report::write_report;
 
 #[cfg(test)]

@@ -1,0 +1,65 @@
+//! The report of a directory, from its files to the sink.
+ghost use Rattle.std.specs.Prelude.{◌≡◌, ◌≤◌, ◌++◌, ℕ, List, IsErrOf, IsTrue, OnOk};
+ghost use Rattle.bk_disk.specs.Causes.{Rose};
+ghost use Rattle.bk_disk.specs.Streams.{LeftOver, Wrote};
+ghost use Rattle.bk_load.specs.Courses.{Came};
+ghost use Rattle.bk_load.specs.Tidying.{NoneLent};
+ghost use Rattle.bk_report.specs.Directory.{Tells};
+ghost use Rattle.bk_report.specs.Report.{report_text};
+
+use crate::errors::ReportError;
+use crate::report::write_report;
+use bk_disk::{Disk, Failed, Sink, write_all};
+use bk_keydir::Loaded;
+use bk_load::recover;
+use std::alloc::Global;
+
+/// Recovers a directory, whatever a crash left of it, and writes its report. The same files count
+/// afterwards as before.
+///
+/// `Disk` comes only where the disk's count of faults rose, `Read` only where that of the fallible views did, and
+/// `Sink` only where the sink's did; then a first part may have been written, and otherwise nothing was.
+pub fn report_directory<D: Disk, K: Sink>(
+    alloc: Global,
+    disk: &mut D,
+    sink: &mut K,
+) -> Result<(), ReportError>
+    requires { IsTrue D.tells → NoneLent (D.told disk.old).fronts }
+    ensures came { Came D.tells
+        (record { told = D.told disk.old; faults = D.faults disk.old; views = D.fallible_views disk.old; outs = D.fallible_outs disk.old })
+        (record { told = D.told disk.new; faults = D.faults disk.new; views = D.fallible_views disk.new; outs = D.fallible_outs disk.new }) }
+    ensures told { (output : List ℕ) × Tells result D.tells (D.told disk.old) (D.told disk.new) output
+        × (IsTrue K.tells → K.written sink.new ≡ K.written sink.old ++ output) }
+    ensures disk { IsErrOf result ReportError.Disk → Rose (D.faults disk.old) (D.faults disk.new) }
+    ensures read { IsErrOf result ReportError.Read → Rose (D.fallible_views disk.old) (D.fallible_views disk.new) }
+    ensures later { K.faults sink.old ≤ K.faults sink.new }
+    ensures sink { IsErrOf result ReportError.Sink → Rose (K.faults sink.old) (K.faults sink.new) }
+{
+    match recover(alloc, disk) {
+        Ok(loaded) => {
+            let _keys = loaded.keydir.len();
+            send_report(alloc, &loaded, sink)
+        }
+        Err(error) => Err(ReportError::from(error)),
+    }
+}
+
+// Writes the report of what was loaded.
+fn send_report<K: Sink>(alloc: Global, loaded: &Loaded, sink: &mut K) -> Result<(), ReportError>
+    ensures whole { IsTrue K.tells → OnOk result (Wrote (K.written sink.old) (K.written sink.new)
+        (report_text loaded.now.rows.items loaded.now.report)) }
+    ensures part { IsTrue K.tells → IsErrOf result ReportError.Sink → LeftOver (K.written sink.old) (K.written sink.new)
+        (report_text loaded.now.rows.items loaded.now.report) }
+    ensures nothing { IsErrOf result ReportError.Memory → sink.new ≡ sink.old }
+    ensures disk { IsErrOf result ReportError.Disk → ⊥ }
+    ensures read { IsErrOf result ReportError.Read → ⊥ }
+    ensures later { K.faults sink.old ≤ K.faults sink.new }
+    ensures sink { IsErrOf result ReportError.Sink → Rose (K.faults sink.old) (K.faults sink.new) }
+{
+    let mut text = Vec::new(alloc);
+    write_report(&mut text, &loaded.rows, &loaded.report)?;
+    match write_all(sink, &text) {
+        Ok(()) => Ok(()),
+        Err(Failed) => Err(ReportError::Sink),
+    }
+}
