@@ -94,7 +94,7 @@ pub record PairEvent (disk : Bool) (slot : ℕ) (v u : Shown) (key : List ℕ) (
   pub checked : IsTrue disk → (o : Opening) (h : List Step) (tried : List Write) → Follows disk v o h tried
       → check_of l.left ≡ l.crc
 
-lists_pair : {V : Type 0} (slot : ℕ) (o : Option Slot) (v u : Shown) (row : Row2 V) → ListsIn slot o v u (Some row)
+pub lists_pair : {V : Type 0} (slot : ℕ) (o : Option Slot) (v u : Shown) (row : Row2 V) → ListsIn slot o v u (Some row)
     → (s : Slot) × (o ≡ Some s) × ListsPair slot s v u row.key row.loan
 lists_pair slot None v u row h = absurd h
 lists_pair slot (Some s) v u row h = (s, refl, h)
@@ -169,7 +169,7 @@ pair_ours disk slot v u key l e ours =
 
 module _ (disk sink : Bool) (slot : ℕ) (v u : Shown) (key : List ℕ) (l : Lent) (e : PairEvent disk slot v u key l) where
   -- the pair, with this value
-  listed_with : (b : Begun) (rows : List Row) (steps : List Step) (value : List ℕ)
+  pub listed_with : (b : Begun) (rows : List Row) (steps : List Step) (value : List ℕ)
       → (IsTrue disk → value ≡ drop l.value_at l.left) → Listed disk b slot v rows [] 0 steps
       → Listed disk b slot u (rows ++ (record { key = key; value = value }) ∷ []) [] 0
       (steps ++ step_of disk (entry_by 0 (FoldNext slot) (Pair key value)) (u.files.faults - v.files.faults) e.view.n u ∷ [])

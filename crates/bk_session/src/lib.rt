@@ -14,4 +14,5 @@ mod syncs;
 #[cfg(test)]
 mod tests;
 
+pub use outbox::{Outbox, Unread, Unsent};
 pub use sessions::session;

@@ -22,14 +22,14 @@ const KEPT: usize = 262_144;
 
 /// Why a reply didn't come to the outbox, or not to the sink.
 #[derive(Clone, Copy, Debug, PartialEq, Eq)]
-pub(crate) enum Unsent {
+pub enum Unsent {
     Sink,
     Memory,
 }
 
 /// Why the value of a loan didn't come to the outbox, or not to the sink.
 #[derive(Clone, Copy, Debug, PartialEq, Eq)]
-pub(crate) enum Unread {
+pub enum Unread {
     Sink,
     Memory,
     Read,
@@ -43,7 +43,7 @@ pub(crate) enum Unread {
 
 /// The text of the replies that wait to be written.
 #[derive(Drop)]
-pub(crate) struct Outbox {
+pub struct Outbox {
     text: Vec<u8>,
 }
 
@@ -56,7 +56,7 @@ impl Model for Outbox {
 }
 
 impl Outbox {
-    pub(crate) fn new(alloc: Global) -> Outbox
+    pub fn new(alloc: Global) -> Outbox
         ensures { result ≡ [] }
     {
         Outbox {
@@ -65,7 +65,7 @@ impl Outbox {
     }
 
     /// Gathers a reply, and writes all that is gathered once it is much. `Memory` leaves all as it was.
-    pub(crate) fn add<K: Sink>(&mut self, sink: &mut K, reply: &Reply) -> Result<(), Unsent>
+    pub fn add<K: Sink>(&mut self, sink: &mut K, reply: &Reply) -> Result<(), Unsent>
         ensures sent { IsTrue K.tells → OnOk result (Sends (outgoing (K.written sink.old) self.old)
             (reply_text reply.now) (outgoing (K.written sink.new) self.new)) }
         ensures stopped { IsTrue K.tells → IsErrOf result Unsent.Sink
@@ -83,7 +83,7 @@ impl Outbox {
 
     /// Gathers the reply VALUE with the value of a loan, which is read straight into the outbox.
     /// Unless the sink failed, an error leaves all as it was.
-    pub(crate) fn add_value<K: Sink, V: View + Drop>(
+    pub fn add_value<K: Sink, V: View + Drop>(
         &mut self,
         sink: &mut K,
         loan: Loan<V>,
@@ -111,7 +111,7 @@ impl Outbox {
     }
 
     /// Gathers the reply PAIR with a key and the value of a loan, as `add_value` does.
-    pub(crate) fn add_pair<K: Sink, V: View + Drop>(
+    pub fn add_pair<K: Sink, V: View + Drop>(
         &mut self,
         sink: &mut K,
         key: &Key,
@@ -140,7 +140,7 @@ impl Outbox {
     }
 
     /// Writes all that is gathered. After `Failed` the sink took a first part of it.
-    pub(crate) fn flush<K: Sink>(&mut self, sink: &mut K) -> Result<(), Failed>
+    pub fn flush<K: Sink>(&mut self, sink: &mut K) -> Result<(), Failed>
         ensures wrote { IsTrue K.tells → OnOk result
             (Wrote (K.written sink.old) (K.written sink.new) self.old) }
         ensures part { IsTrue K.tells → OnErr result
