@@ -1,0 +1,5 @@
+pub mod Sorting
+pub mod Ending
+pub mod Gathering
+pub mod Printing
+pub mod Lists

@@ -1,0 +1,11 @@
+//! The command `list`: the live pairs of a store, sorted by their keys.
+#![tactic(auto)]
+
+mod ending;
+mod gathering;
+mod lists;
+mod printing;
+#[cfg(test)]
+mod tests;
+
+pub use lists::{ListEnd, list};
