@@ -131,7 +131,7 @@ rows_stopped before rows row out new s t = record {
 
 -- ---- how it ends
 
-module _ (known sink : Bool) (before : List ℕ) (first last : List Row) (out : Outgoing)
+module _ (known sink : Bool) (before : List ℕ) (first last : List Row) (few : length last ≤ 1) (out : Outgoing)
     (sent : IsTrue sink → Sends (outgoing before []) (rows_text Fold first) out) (now : List ℕ) where
   -- what is printed of these rows, the first of which were gathered
   pub record Ends (result : ListEnd) : Type 0 where
@@ -145,7 +145,7 @@ module _ (known sink : Bool) (before : List ℕ) (first last : List Row) (out : 
     rows_text Fold first ++ [],
     all_out before (rows_text Fold first) [] out now (sent tell)
         (wrote ∙ ap (λ (l : List ℕ). out.written ++ l) (sym (append-nil out.gathered))),
-    record { first = first; last = last; are = refl; is = refl },
+    record { first = first; last = last; few = few; are = refl; is = refl },
   )
 
   -- a part of a text that begins the listing
@@ -213,7 +213,7 @@ module _ (known sink : Bool) (before : List ℕ) (first last : List Row) (out : 
           kept = kept;
           found = found;
           differs = differs;
-          breaks = record { first = first; last = last; are = refl; is = refl };
+          breaks = record { first = first; last = last; few = few; are = refl; is = refl };
         },
       );
       not_done = λ is. cc is;
@@ -234,7 +234,7 @@ module _ (known sink : Bool) (before : List ℕ) (first last : List Row) (out : 
                 kept = kept;
                 found = found;
                 differs = differs;
-                breaks = record { first = first; last = last; are = refl; is = refl };
+                breaks = record { first = first; last = last; few = few; are = refl; is = refl };
               },
               part.start,
             ),
@@ -244,16 +244,20 @@ module _ (known sink : Bool) (before : List ℕ) (first last : List Row) (out : 
     })
     ends_damaged result (inr rest) = ends_memory result (inl rest)
 
+-- a row alone is few
+pub one_row : 1 ≤ 1
+one_row = omega arith
+
 -- a pair that couldn't be gathered
 pub ends_unsent : (known sink : Bool) (before : List ℕ) (first : List Row) (key value : List ℕ) (out new : Outgoing)
     (sent : IsTrue sink → Sends (outgoing before []) (rows_text Fold first) out) (now : List ℕ) (why : Unread) (result : ListEnd)
     → IsUnsent why known sink key value out new → Breaks why result sink new.written now new.gathered
-    → Ends known sink before first (row_if key (Some value)) out sent now result
+    → Ends known sink before first (row_if key (Some value)) one_row out sent now result
 ends_unsent known sink before first key value out new sent now sink_failed result unsent (is, same) =
     let row : Row = record { key = key; value = value } in
-    subst (Ends known sink before first (row ∷ []) out sent now) (sym is) (record {
+    subst (Ends known sink before first (row ∷ []) one_row out sent now) (sym is) (record {
       prints = λ tell others.
-          part_prints known sink before first (row ∷ []) out sent now others (rows_text Fold (first ++ row ∷ []))
+          part_prints known sink before first (row ∷ []) one_row out sent now others (rows_text Fold (first ++ row ∷ []))
           (subst (IsPart before (rows_text Fold (first ++ row ∷ []))) (sym same)
           (part_stopped before (rows_text Fold (first ++ row ∷ [])) new
           (rows_stopped before first row out new (sent tell) (unsent tell))))
@@ -263,13 +267,13 @@ ends_unsent known sink before first key value out new sent now sink_failed resul
       damaged = λ is. absurd (cc is);
     })
 ends_unsent known sink before first key value out new sent now no_memory result unsent breaks =
-    ends_memory known sink before first (row_if key (Some value)) out sent now result
+    ends_memory known sink before first (row_if key (Some value)) one_row out sent now result
     (subst (λ (o : Outgoing). WritesAll Memory result sink o.written now o.gathered) unsent breaks)
 ends_unsent known sink before first key value out new sent now Read result unsent breaks =
-    ends_disk known sink before first (row_if key (Some value)) out sent now result
+    ends_disk known sink before first (row_if key (Some value)) one_row out sent now result
     (subst (λ (o : Outgoing). WritesAll Disk result sink o.written now o.gathered) unsent breaks)
 ends_unsent known sink before first key value out new sent now (is_damaged file at kept found) result unsent breaks =
-    ends_damaged known sink before first (row_if key (Some value)) out sent now file at kept found unsent.1 unsent.2 result
+    ends_damaged known sink before first (row_if key (Some value)) one_row out sent now file at kept found unsent.1 unsent.2 result
     (subst (λ (o : Outgoing). WritesLine Damaged result sink o.written now o.gathered (reply_text (damaged_line file at kept found)))
     unsent.0 breaks)
 
@@ -383,7 +387,7 @@ module _ (known sink : Bool) (now : Moment) (before : List ℕ) (v : StoreShown)
                   (wrote tell),
               (no_rows others none, refl),
             );
-            whole = λ is. refl;
+            whole = λ is. (refl, refl);
             damaged = λ is. absurd (cc is);
           })
       go p (inl (inr (is, left))) =
@@ -403,11 +407,11 @@ module _ (known sink : Bool) (now : Moment) (before : List ℕ) (v : StoreShown)
                       (sym (ap (λ (rows : List Row). found_rows p.got ++ rows) (no_rows others none) ∙ append-nil (found_rows p.got)))
                       part.start),
                 );
-            whole = λ is. refl;
+            whole = λ is. (refl, refl);
             damaged = λ is. absurd (cc is);
           })
       go p (inr (is, wrote)) =
-          let ends = ends_memory known sink before (found_rows p.got) [] out p.sent after result (inl (is, wrote)) in
+          let ends = ends_memory known sink before (found_rows p.got) [] (omega arith) out p.sent after result (inl (is, wrote)) in
           record {
             got = p.got;
             left = [];
@@ -418,7 +422,7 @@ module _ (known sink : Bool) (now : Moment) (before : List ℕ) (v : StoreShown)
             prints = λ tell others none.
                 subst (λ (rows : List Row). PrintsTo known result rows others before after) (append-nil (found_rows p.got))
                 (ends.prints tell others);
-            whole = λ is. refl;
+            whole = λ is. (refl, refl);
             damaged = ends.damaged;
           }
 
@@ -453,7 +457,7 @@ module _ (known sink : Bool) (now : Moment) (before : List ℕ) (v : StoreShown)
   prints_refused m u keys done rest key out new count error result after whole some shows writes b slot given behind steps l =
       let p = some b slot given behind steps l in
       let (goes, same) = shows b slot given (behind ++ get_calls now p.got) p.goes.steps p.goes.listed in
-      let ends = ends_located known sink before (found_rows p.got) [] out p.sent after error result
+      let ends = ends_located known sink before (found_rows p.got) [] (omega arith) out p.sent after error result
       (subst (λ (o : Outgoing). WritesAll (end_of_locate error) result sink o.written after o.gathered) same writes) in
       record {
         got = p.got;

@@ -58,6 +58,7 @@ use Rattle.bk_list.specs.Lists.{IsAsBefore, Lists, Sides, begun_at}
 use Rattle.bk_list.specs.Printing.{Asked, PrintsSorted, Stays, asked_keys, found_rows, get_call, get_calls, row_if}
 use Rattle.bk_list.specs.Sorting.{AreSorted, IsSortedMap, key_cmp}
 use Rattle.bk_list.proofs.Gathers.{moves_then, set_same}
+use Rattle.bk_list.proofs.Prints.{no_rows}
 use Rattle.bk_list.proofs.SortedRows.{all_live, sorted_map}
 
 -- ---- the order
@@ -457,6 +458,7 @@ module _ (tells : Tells) (old new : Sides) (end : ListEnd) (now : Moment) (slot 
               (All-permutation (λ (row : Row). live log row.key now.0 ttl ≡ Some row.value) g.rows rows moved
               (all_live ttl now.0 log [] g.rows (listing tell)))
               (got_is_live tells.disk b slot new.store g.rows p.got p.quiet p.goes.steps tell p.goes.listed);
+          whole = λ is. let all = p.whole is in (no_rows others (others_are p.got p.left rows are ∙ all.0), all.1);
           prints = λ tell. p.prints tell others (others_are p.got p.left rows are);
           damaged = p.damaged;
         });

@@ -16,7 +16,7 @@ use Rattle.bk_session.specs.Serving.{Tells}
 use Rattle.bk_store.specs.History.{kept_of}
 use Rattle.bk_store.specs.Shown.{Shown}
 use Rattle.bk_list.specs.declared.lists.ListEnd.{ListEnd}
-use Rattle.bk_list.specs.declared.lists.ListEnd.TheVariants.{Damaged}
+use Rattle.bk_list.specs.declared.lists.ListEnd.TheVariants.{Damaged, Done}
 use Rattle.bk_list.specs.Gathering.{Stops, keys_of}
 use Rattle.bk_list.specs.Printing.{Asked, PrintsTo, asked_keys, found_rows, get_calls}
 use Rattle.bk_list.specs.Sorting.{AreSorted, IsSortedMap}
@@ -49,6 +49,7 @@ pub record ListsAll (tells : Tells) (old new : Sides) (end : ListEnd) (b : Begun
   pub listed : Listed tells.disk b slot new.store given (end_call slot ∷ closing_call slot ∷ get_calls b.now got) quiet steps
   pub live : IsTrue tells.disk → IsSortedMap b.opening.settings.ttl b.now.0 (log_of b.opening b.before) sorted
   pub shows : IsTrue tells.disk → sorted ≡ found_rows got ++ others
+  pub whole : end ≡ Done → (others ≡ []) × (quiet ≡ 0)
   pub prints : IsTrue tells.sink → PrintsTo tells.disk end (found_rows got) others old.written new.written
   pub damaged : end ≡ Damaged → tells.disk ≡ false
 

@@ -65,14 +65,15 @@ found_rows got = flat_map (λ (a : Asked). row_if a.key a.found) got
 abbrev pub listing_text : List Row → List ℕ
 listing_text rows = rows_text Fold rows ++ reply_text (End (length rows))
 
--- some first rows, and this text behind them
+-- all rows, or all but the last one, and this text behind them
 pub record BreaksOff (rows : List Row) (behind text : List ℕ) : Type 0 where
   pub first : List Row
   pub last : List Row
+  pub few : length last ≤ 1
   pub are : rows ≡ first ++ last
   pub is : text ≡ rows_text Fold first ++ behind
 
--- some first rows, and the line of a record whose checksum isn't the one that was kept
+-- the same, and the line of a record whose checksum isn't the one that was kept
 pub record IsDamaged (known : Bool) (rows : List Row) (text : List ℕ) : Type 0 where
   pub unknown : known ≡ false
   pub file : FileId
@@ -82,8 +83,8 @@ pub record IsDamaged (known : Bool) (rows : List Row) (text : List ℕ) : Type 0
   pub differs : kept ≢ found
   pub breaks : BreaksOff rows (reply_text (damaged_line file at kept found)) text
 
--- What is printed of the rows that were got, with others that weren't asked for, by how the listing ends. Only a sink
--- that fails leaves a part of a line.
+-- What is printed of the rows that were got, with others that weren't asked for, by how the listing ends. The row that
+-- was got last may be missing. Only a sink that fails leaves a part of a line.
 abbrev pub Prints : Bool → ListEnd → List Row → List Row → List ℕ → Type 0
 Prints known Done rows others output = (others ≡ []) × (output ≡ listing_text rows)
 Prints known Damaged rows others output = IsDamaged known rows output
@@ -147,7 +148,7 @@ pub record PrintedKeys (known sink : Bool) (end : ListEnd) (now : Moment) (keys 
   pub few : quiet ≤ 1
   pub goes : GoesTo known b slot u given (behind ++ get_calls now got) quiet
   pub prints : IsTrue sink → (others : List Row) → keys_of others ≡ left → PrintsTo known end (found_rows got) others before after
-  pub whole : end ≡ Done → left ≡ []
+  pub whole : end ≡ Done → (left ≡ []) × (quiet ≡ 0)
   pub damaged : end ≡ Damaged → known ≡ false
 
 -- in this order
