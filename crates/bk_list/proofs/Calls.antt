@@ -1,13 +1,12 @@
 -- One call more of a history that lists.
-use Rattle.std.proofs.Common.{◌≡◌, ◌∙◌, ℕ, ◌+◌, ◌-◌, ◌≤◌, Bool, List, [], ◌∷◌, ◌++◌, refl}
-use Rattle.std.proofs.Common.{sym, ap, subst, arith}
+use Rattle.std.proofs.Common.{◌≡◌, ℕ, ◌+◌, ◌-◌, Bool, List, [], ◌∷◌, ◌++◌, refl}
 use Rattle.std.specs.Prelude.{IsTrue}
 use Rattle.bk_base.specs.declared.calls.Answer.{Answer}
 use Rattle.bk_base.specs.declared.calls.Call.{Call}
 use Rattle.bk_base.specs.declared.histories.Step.{Step}
 use Rattle.bk_exchange.specs.Listings.{Row}
 use Rattle.bk_exchange.specs.OneThread.{one_if_quiet}
-use Rattle.bk_exchange.specs.Points.{Said, events, heard, point_of}
+use Rattle.bk_exchange.specs.Points.{Said, heard, point_of}
 use Rattle.bk_exchange.proofs.Bodies.{listing_behind}
 use Rattle.bk_laws.specs.History.{State, changed, state_after}
 use Rattle.bk_session.specs.Following.{own_context}

@@ -24,19 +24,19 @@ use Rattle.bk_store.specs.declared.errors.FoldError.{FoldError}
 use Rattle.bk_store.specs.declared.errors.FoldError.TheVariants.{Disk as fold_disk, Memory as fold_memory, NoFold}
 use Rattle.bk_store.specs.declared.folds.Row2.{Row2}
 use Rattle.bk_store.specs.Events.{Keeps, KeepsPast, entry_by, quiet_by}
-use Rattle.bk_store.specs.FoldEvents.{IsFoldError, LendsPair, ListsIn, ListsNext, ListsPair, lent_of, next_reply}
+use Rattle.bk_store.specs.FoldEvents.{IsFoldError, LendsPair, ListsNext, lent_of, next_reply}
 use Rattle.bk_store.specs.Standing.{StandsFor}
 use Rattle.bk_laws.specs.History.{log_of}
 use Rattle.bk_store.specs.Loans.{Lent, Views, ViewsNothing, view_of}
 use Rattle.bk_store.specs.Shown.{Shown}
 use Rattle.bk_store.proofs.Pasts.{past_same, past_then}
-use Rattle.bk_session.specs.Listing.{Begun, IsOurs, IsUnmoved, Listed}
+use Rattle.bk_session.specs.Listing.{IsOurs, IsUnmoved}
 use Rattle.bk_session.proofs.Events.{Still, rises_by_faults}
 use Rattle.bk_session.proofs.FoldCalls.{low_slot, set_here, unmoved_nothing, unmoved_same}
 use Rattle.bk_session.proofs.FoldRows.{PairEvent, listed_with, lists_pair, pair_event_of, pair_ours}
 use Rattle.bk_session.proofs.Following.{known_way}
 use Rattle.bk_session.proofs.Reading.{still_files, views_past}
-use Rattle.bk_list.specs.Gathering.{Gathered, Gathers, IsRefused, MovesOn, Refuses, keys_of}
+use Rattle.bk_list.specs.Gathering.{Gathers, MovesOn, Refuses}
 use Rattle.bk_list.proofs.Calls.{plus_one}
 
 -- ---- slots

@@ -1,11 +1,9 @@
 -- One key more: it is located, and its pair is gathered.
-use Rattle.std.proofs.Common.{◌≡◌, ◌∙◌, ℕ, ◌+◌, ◌-◌, ◌≤◌, Bool, true, false, List, [], ◌∷◌, ◌++◌, drop, min}
+use Rattle.std.proofs.Common.{◌≡◌, ◌∙◌, ℕ, ◌-◌, ◌≤◌, Bool, true, false, List, [], ◌∷◌, ◌++◌, drop, min}
 use Rattle.std.proofs.Common.{Option, Some, None, refl, sym, ap, subst, arith}
-use Rattle.std.specs.Prelude.{◌≢◌, IsTrue, Result, Ok, Err, OnOk, IfErr, IsErrOf}
+use Rattle.std.specs.Prelude.{IsTrue, Result, Err}
 use Rattle.std.proofs.lemmas.List.{append-nil}
-use Rattle.bk_base.specs.declared.calls.Answer.{Answer}
 use Rattle.bk_base.specs.declared.calls.Answer.TheVariants.{Done, Found, Nothing}
-use Rattle.bk_base.specs.declared.calls.Call.{Call}
 use Rattle.bk_base.specs.declared.calls.Call.TheVariants.{Get, Quiet}
 use Rattle.bk_base.specs.declared.histories.Opening.{Opening}
 use Rattle.bk_base.specs.declared.histories.Step.{Step}
@@ -14,24 +12,20 @@ use Rattle.bk_base.specs.declared.requests.Reply.TheVariants.{Pair}
 use Rattle.bk_base.specs.declared.writes.Write.{Write}
 use Rattle.bk_disk.specs.Causes.{Rose, bumped, most}
 use Rattle.bk_exchange.specs.Listings.{Row}
-use Rattle.bk_exchange.specs.OneThread.{one_if_quiet}
-use Rattle.bk_exchange.specs.Points.{Said, events, heard, point_of, said}
-use Rattle.bk_exchange.proofs.Bodies.{listing_behind}
-use Rattle.bk_files.specs.Catalog.{Known}
-use Rattle.bk_laws.specs.History.{State, changed, log_of, state_after}
+use Rattle.bk_exchange.specs.Points.{Said, heard}
+use Rattle.bk_laws.specs.History.{State, changed, log_of}
 use Rattle.bk_laws.specs.Log.{winner}
 use Rattle.bk_laws.specs.Wire.{reply_text}
 use Rattle.bk_session.specs.declared.outbox.Unread.{Unread}
 use Rattle.bk_session.specs.declared.outbox.Unread.TheVariants.{Sink as sink_failed, Memory as no_memory, Read, Damaged as is_damaged}
-use Rattle.bk_session.specs.Following.{Follows, own_context}
+use Rattle.bk_session.specs.Following.{Follows}
 use Rattle.bk_session.specs.Listing.{Begun, IsUnmoved, Listed}
 use Rattle.bk_session.specs.Outgoing.{IsUnread, Outgoing, Sends, Stops}
-use Rattle.bk_session.proofs.Events.{Rises, Still, counts_of, is_step_of, rises_by_fault, rises_by_faults, step_of}
-use Rattle.bk_session.proofs.FoldCalls.{listed_more, unmoved_nothing, unmoved_views}
-use Rattle.bk_session.proofs.Following.{follows_still, known_way}
-use Rattle.bk_session.proofs.Reading.{RisesByView, rises_by_view, still_files}
+use Rattle.bk_session.proofs.Events.{Rises, Still, rises_by_faults}
+use Rattle.bk_session.proofs.FoldCalls.{unmoved_nothing, unmoved_views}
+use Rattle.bk_session.proofs.Following.{known_way}
+use Rattle.bk_session.proofs.Reading.{rises_by_view, still_files}
 use Rattle.bk_store.specs.declared.errors.LocateError.{LocateError}
-use Rattle.bk_store.specs.declared.errors.LocateError.TheVariants.{Disk as locate_disk, Memory as locate_memory}
 use Rattle.bk_store.specs.Events.{Keeps, entry_by, quiet_by}
 use Rattle.bk_store.specs.Loans.{Lent, LendsWrite, Views, ViewsNothing, check_of, get_reply, view_of}
 use Rattle.bk_store.specs.Shown.{Shown}
@@ -40,7 +34,7 @@ use Rattle.bk_disk.specs.Told.{untold}
 use Rattle.bk_list.specs.declared.printing.Shown.TheVariants.{Row as shown_row, Absent, Unread as is_unread, Refused}
 use Rattle.bk_list.proofs.Calls.{plus_one}
 use Rattle.bk_list.proofs.Gathers.{bumped_least}
-use Rattle.bk_list.specs.Printing.{GoesTo, IsUnsent, Shows, Stays, answer_of, asked, get_call}
+use Rattle.bk_list.specs.Printing.{GoesTo, Shows, Stays, answer_of, asked, get_call}
 
 got_changes : (key : List ℕ) (now : Moment) (found : Option (List ℕ)) (s : State) → changed 0 (Get key now) (answer_of found) s ≡ s
 got_changes key now None s = refl

@@ -1,15 +1,14 @@
 -- The rows on their way out, and how a listing ends.
-use Rattle.std.proofs.Common.{◌≡◌, ◌∙◌, ℕ, ◌+◌, ◌<◌, ◌≤◌, Bool, true, false, List, [], ◌∷◌}
+use Rattle.std.proofs.Common.{◌≡◌, ◌∙◌, ℕ, ◌+◌, ◌<◌, ◌≤◌, Bool, false, List, [], ◌∷◌}
 use Rattle.std.proofs.Common.{◌++◌, length, get_or, drop, take, refl, sym, ap, subst, arith, inl, inr}
-use Rattle.std.proofs.Common.{Option, None, Some}
-use Rattle.std.specs.Prelude.{◌≢◌, ◌⊎◌, IsTrue, map}
+use Rattle.std.proofs.Common.{None, Some}
+use Rattle.std.specs.Prelude.{◌≢◌, IsTrue}
 use Rattle.std.specs.List.{flat_map}
 use Rattle.std.proofs.lemmas.List.{append-nil, append_assoc, length-append, map-append, take-append-drop, take_more}
 use Rattle.std.proofs.lemmas.List.Concat.{flat_map-append}
 use Rattle.bk_base.specs.declared.histories.Step.{Step}
 use Rattle.bk_base.specs.declared.numbers.FileId.{FileId}
 use Rattle.bk_base.specs.declared.numbers.Moment.{Moment}
-use Rattle.bk_base.specs.declared.requests.Reply.{Reply}
 use Rattle.bk_base.specs.declared.requests.Reply.TheVariants.{Damaged as damaged_line, End, Pair}
 use Rattle.bk_base.specs.declared.requests.Request.TheVariants.{Fold}
 use Rattle.bk_disk.specs.Streams.{LeftOver, Wrote}
@@ -29,7 +28,7 @@ use Rattle.bk_list.specs.declared.lists.ListEnd.{ListEnd}
 use Rattle.bk_list.specs.declared.lists.ListEnd.TheVariants.{Done, Memory, Disk, Sink, Damaged}
 use Rattle.bk_list.specs.declared.printing.Shown.TheVariants.{Row as shown_row, Absent, Unread as is_unread, Refused}
 use Rattle.bk_list.specs.Ending.{Breaks, WritesAll, WritesLine, end_of_locate}
-use Rattle.bk_list.specs.Printing.{Asked, BreaksOff, GoesTo, IsDamaged, IsUnsent, PrintedKeys, PrintsKeys, PrintsTo, Shows, Stays, asked}
+use Rattle.bk_list.specs.Printing.{Asked, BreaksOff, GoesTo, IsUnsent, PrintedKeys, PrintsKeys, PrintsTo, Shows, Stays, asked}
 use Rattle.bk_list.specs.Printing.{asked_keys, found_rows, get_call, get_calls, listing_text, row_if}
 use Rattle.bk_list.specs.Gathering.{keys_of}
 use Rattle.bk_list.proofs.Gets.{stays_none, stays_then}

@@ -1,23 +1,20 @@
 -- A listing whose rows are sorted is the map that it lists, in the order of its keys.
 use Rattle.std.proofs.Common.{◌≡◌, ◌∙◌, ℕ, zero, suc, ◌+◌, ◌<◌, ◌≤◌, Bool, true, false, cond, List}
 use Rattle.std.proofs.Common.{[], ◌∷◌, ◌++◌, length}
-use Rattle.std.proofs.Common.{Option, Some, None, add-one, refl, sym, ap, subst, arith, get_or, inl, inr}
-use Rattle.std.specs.Prelude.{◌||◌, ◌⊎◌, IsPermutation, IsSorted, sum_by, All}
+use Rattle.std.proofs.Common.{Some, None, add-one, refl, sym, ap, arith, get_or, inl, inr}
+use Rattle.std.specs.Prelude.{◌||◌, ◌⊎◌, sum_by, All}
 use Rattle.std.specs.declared.cmp.Ordering.{Ordering}
 use Rattle.std.specs.declared.cmp.Ordering.TheVariants.{Less, Equal, Greater}
-use Rattle.std.specs.List.{AllAdjacentBelow, list_any}
+use Rattle.std.specs.List.{list_any}
 use Rattle.std.specs.Cmp.Lexicographic.{slice_cmp}
 use Rattle.std.specs.Ordering.{nat_cmp, is_lt, is_eq}
-use Rattle.std.specs.FinMap.{nat_cmp-IsAntisymmetric}
 use Rattle.std.specs.Str.{bytes_eq}
-use Rattle.std.specs.Cmp.{IsTotalOrder}
-use Rattle.std.specs.Bool.{Decides}
 use Rattle.std.specs.Ordering.{ordering_reverse}
 use Rattle.std.proofs.lemmas.Bool.{cases_Bool, true≢false}
 use Rattle.std.proofs.lemmas.Cmp.{nat_list_cmp_total}
 use Rattle.std.proofs.lemmas.List.Elements.{All-cons, All-head, All-nil, All-tail}
 use Rattle.std.proofs.lemmas.List.Folds.{list_any-append}
-use Rattle.std.proofs.lemmas.List.Sorted.{All-permutation, IsPermutation-sym, list_any-IsPermutation, sum_by-IsPermutation}
+use Rattle.std.proofs.lemmas.List.Sorted.{All-permutation, list_any-IsPermutation, sum_by-IsPermutation}
 use Rattle.std.proofs.lemmas.List.Sums.{sum_by-cons}
 use Rattle.std.proofs.lemmas.Map.Text.{is_eq-slice_cmp}
 use Rattle.std.proofs.lemmas.Slice.Eq.{bytes_eq-Decides}
@@ -25,7 +22,7 @@ use Rattle.bk_base.specs.declared.writes.Write.{Write}
 use Rattle.bk_exchange.specs.Listings.{IsListing, Row}
 use Rattle.bk_laws.specs.History.{is_listed}
 use Rattle.bk_laws.specs.Log.{live}
-use Rattle.bk_list.specs.Sorting.{AreSorted, IsSortedMap, key_cmp, value_in}
+use Rattle.bk_list.specs.Sorting.{AreSorted, IsSortedMap, value_in}
 
 same_key : (key other : List ℕ) → bytes_eq key other ≡ true → key ≡ other
 same_key key other is = (bytes_eq-Decides key other).0 is

@@ -1,12 +1,11 @@
 -- The whole command: a fold is opened, gathered and closed, and its keys are sorted, got and printed.
-use Rattle.std.proofs.Common.{◌≡◌, ◌∙◌, ℕ, zero, suc, ◌+◌, ◌<◌, ◌≤◌, Bool, true, false, List, []}
+use Rattle.std.proofs.Common.{◌≡◌, ◌∙◌, ℕ, ◌+◌, Bool, false, List, []}
 use Rattle.std.proofs.Common.{◌∷◌, ◌++◌, length, get_or}
 use Rattle.std.proofs.Common.{Option, Some, None, refl, sym, ap, subst, arith, inl, inr}
-use Rattle.std.specs.Prelude.{All, IsTrue, IsPermutation, IsSorted, map, slice_set, ◌⊎◌}
+use Rattle.std.specs.Prelude.{All, IsTrue, IsPermutation, IsSorted, map, slice_set}
 use Rattle.std.specs.Cmp.Lexicographic.{slice_cmp}
-use Rattle.std.specs.List.{AllByRecursion, flat_map, swap}
+use Rattle.std.specs.List.{AllByRecursion, swap}
 use Rattle.std.specs.Ordering.{is_lt, nat_cmp}
-use Rattle.std.specs.declared.cmp.Ordering.{Ordering}
 use Rattle.std.proofs.lemmas.List.{append-nil, length-map, map-set}
 use Rattle.std.proofs.lemmas.List.Sorted.{All-permutation, IsPermutation-keeps, IsPermutation-refl, IsPermutation-swap, IsPermutation-trans}
 use Rattle.std.proofs.lemmas.List.Elements.{All-head, All-tail}
@@ -21,11 +20,9 @@ use Rattle.bk_base.specs.declared.numbers.Moment.{Moment}
 use Rattle.bk_base.specs.declared.writes.Write.{Write}
 use Rattle.bk_disk.specs.Crashes.{AtEach, fronts_at}
 use Rattle.bk_disk.specs.Told.{Front, Table, Told, clock, untold}
-use Rattle.bk_exchange.specs.Answers.{own_calls}
 use Rattle.bk_exchange.specs.Listings.{IsListing, Row, closing_call, end_call, listing_calls, row_calls}
-use Rattle.bk_exchange.specs.OneThread.{IsAlone}
-use Rattle.bk_exchange.specs.Points.{AtOne, Event, Point, Said, calls_of, events, heard, next_point, own, point_after, point_of}
-use Rattle.bk_exchange.specs.Sessions.{Ticks, first_moment, later_moments}
+use Rattle.bk_exchange.specs.Points.{AtOne, Event, Point, Said, calls_of, events, heard, next_point, point_of}
+use Rattle.bk_exchange.specs.Sessions.{first_moment, later_moments}
 use Rattle.bk_exchange.specs.Writes.{writes_in}
 use Rattle.bk_exchange.proofs.Events.{point_of-append, state_of_point}
 use Rattle.bk_exchange.proofs.OkLines.{writes-append}
@@ -34,8 +31,8 @@ use Rattle.bk_exchange.proofs.WholeListings.{listing_whole}
 use Rattle.bk_image.specs.Prefix.{MeetsEither}
 use Rattle.bk_keydir.specs.declared.slots.Slot.{Slot}
 use Rattle.bk_keydir.specs.Keydir.{Shown as KeydirShown}
-use Rattle.bk_keydir.specs.Slots.{has_open, opened, slot_at, who_of}
-use Rattle.bk_laws.specs.History.{IsLegal, IsReply, State, after, entries, log_of, opened as opening_state, state_after, state_of}
+use Rattle.bk_keydir.specs.Slots.{has_open, opened, slot_at}
+use Rattle.bk_laws.specs.History.{IsLegal, IsReply, State, after, entries, log_of, opened as opening_state, state_of}
 use Rattle.bk_laws.specs.Log.{IsLog, live}
 use Rattle.bk_store.specs.declared.folds.Fold.{Fold}
 use Rattle.bk_store.specs.Events.{CrashMeets, Keeps, entry_by}
@@ -47,7 +44,7 @@ use Rattle.bk_store.proofs.FoldOpens.{first_is_free}
 use Rattle.bk_store.proofs.FoldSteps.{log_rises}
 use Rattle.bk_store.proofs.Starting.{no_slot}
 use Rattle.bk_files.specs.Files.{Seen}
-use Rattle.bk_session.specs.Following.{Follows, own_context}
+use Rattle.bk_session.specs.Following.{Follows}
 use Rattle.bk_session.specs.Listing.{Begun, Closes, IsOurs, IsUnmoved, Listed}
 use Rattle.bk_session.specs.Serving.{Tells}
 use Rattle.bk_session.proofs.FoldCalls.{listed_closed, listed_opened, low_slot, owned, same_clock, set_here}
@@ -56,7 +53,7 @@ use Rattle.bk_list.specs.declared.lists.ListEnd.{ListEnd}
 use Rattle.bk_list.specs.Gathering.{Gathers, MovesOn, Refuses, Stops, keys_of}
 use Rattle.bk_list.specs.Lists.{IsAsBefore, Lists, Sides, begun_at}
 use Rattle.bk_list.specs.Printing.{Asked, PrintsSorted, Stays, asked_keys, found_rows, get_call, get_calls, row_if}
-use Rattle.bk_list.specs.Sorting.{AreSorted, IsSortedMap, key_cmp}
+use Rattle.bk_list.specs.Sorting.{AreSorted, key_cmp}
 use Rattle.bk_list.proofs.Gathers.{moves_then, set_same}
 use Rattle.bk_list.proofs.Prints.{no_rows}
 use Rattle.bk_list.proofs.SortedRows.{all_live, sorted_map}

@@ -1,5 +1,5 @@
 -- What is gathered of a fold.
-use Rattle.std.specs.Prelude.{◌≡◌, ℕ, ◌≤◌, Bool, List, [], ◌∷◌, map, min, slice_set}
+use Rattle.std.specs.Prelude.{◌≡◌, ℕ, ◌≤◌, Bool, List, [], map, min, slice_set}
 use Rattle.bk_base.specs.declared.histories.Step.{Step}
 use Rattle.bk_disk.specs.Causes.{most}
 use Rattle.bk_exchange.specs.Listings.{Row}

@@ -1,10 +1,10 @@
-use Rattle.std.proofs.Common.{◌≡◌, ◌∙◌, ◌++◌, ◌∷◌, [], List, ℕ, Option, Some, None, ap, subst, sym}
+use Rattle.std.proofs.Common.{◌∙◌, List, ℕ, subst, sym}
 use Rattle.bk_base.specs.declared.calls.Answer.{Answer}
 use Rattle.bk_base.specs.declared.calls.Call.TheVariants.{FoldNext}
 use Rattle.bk_store.specs.Events.{Keeps, entry_by}
 use Rattle.bk_store.specs.FoldEvents.{ListsNext}
 use Rattle.bk_session.proofs.FoldRows.{end_reply, end_same}
-use Rattle.bk_list.proofs.Gathers.{Loop, fewer_left, gathers_all, loop_begins, loop_pair, pushed, refuses_now, refuses_then}
+use Rattle.bk_list.proofs.Gathers.{Loop, fewer_left, gathers_all, loop_pair, pushed, refuses_now, refuses_then}
 use Rattle.bk_list.proofs.gathering.gather.Goals as goal
 
 pub returns-then-is_err-clause-refused : goal.returns-then-is_err-clause-refused

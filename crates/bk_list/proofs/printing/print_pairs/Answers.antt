@@ -1,4 +1,4 @@
-use Rattle.std.proofs.Common.{◌≡◌, ◌∙◌, ◌+◌, ◌++◌, ◌∷◌, [], ℕ, List, arith, drop, subst, sym, take}
+use Rattle.std.proofs.Common.{◌∙◌, ◌+◌, ◌++◌, ◌∷◌, [], ℕ, List, drop, subst, sym, take}
 use Rattle.std.proofs.lemmas.List.{append_assoc, take_all}
 use Rattle.bk_session.specs.Outgoing.{outgoing}
 use Rattle.bk_list.specs.declared.lists.ListEnd.{ListEnd}

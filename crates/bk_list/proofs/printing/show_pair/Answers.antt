@@ -1,4 +1,4 @@
-use Rattle.std.proofs.Common.{◌≡◌, ◌∙◌, Option, Some, None, ap}
+use Rattle.std.proofs.Common.{◌∙◌, ap}
 use Rattle.bk_session.specs.Outgoing.{outgoing}
 use Rattle.bk_session.proofs.Texts.{outgoing_same}
 use Rattle.bk_list.proofs.Gets.{found_of, none_shown, not_shown, refused_shown, row_shown}
