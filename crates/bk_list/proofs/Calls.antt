@@ -16,7 +16,7 @@ use Rattle.bk_session.proofs.FoldCalls.{listed_more}
 use Rattle.bk_session.proofs.Following.{follows_still}
 use Rattle.bk_store.specs.Events.{Keeps, entry_by}
 use Rattle.bk_store.specs.Shown.{Shown}
-use Rattle.bk_list.specs.Printing.{GoesTo}
+use Rattle.bk_list.specs.Getting.{GoesTo}
 
 -- ---- a call that changes neither the log nor the folds
 

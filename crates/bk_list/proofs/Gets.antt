@@ -34,7 +34,8 @@ use Rattle.bk_disk.specs.Told.{untold}
 use Rattle.bk_list.specs.declared.printing.Shown.TheVariants.{Row as shown_row, Absent, Unread as is_unread, Refused}
 use Rattle.bk_list.proofs.Calls.{plus_one}
 use Rattle.bk_list.proofs.Gathers.{bumped_least}
-use Rattle.bk_list.specs.Printing.{GoesTo, Shows, Stays, answer_of, asked, get_call}
+use Rattle.bk_list.specs.Getting.{GoesTo, Shows, Stays}
+use Rattle.bk_list.specs.Printing.{answer_of, asked, get_call}
 
 got_changes : (key : List ℕ) (now : Moment) (found : Option (List ℕ)) (s : State) → changed 0 (Get key now) (answer_of found) s ≡ s
 got_changes key now None s = refl

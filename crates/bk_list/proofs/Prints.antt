@@ -28,7 +28,8 @@ use Rattle.bk_list.specs.declared.lists.ListEnd.{ListEnd}
 use Rattle.bk_list.specs.declared.lists.ListEnd.TheVariants.{Done, Memory, Disk, Sink, Damaged}
 use Rattle.bk_list.specs.declared.printing.Shown.TheVariants.{Row as shown_row, Absent, Unread as is_unread, Refused}
 use Rattle.bk_list.specs.Ending.{Breaks, WritesAll, WritesLine, end_of_locate}
-use Rattle.bk_list.specs.Printing.{Asked, BreaksOff, GoesTo, IsUnsent, PrintedKeys, PrintsKeys, PrintsTo, Shows, Stays, asked}
+use Rattle.bk_list.specs.Getting.{GoesTo, IsUnsent, PrintedKeys, PrintsKeys, Shows, Stays}
+use Rattle.bk_list.specs.Printing.{Asked, BreaksOff, PrintsTo, asked}
 use Rattle.bk_list.specs.Printing.{asked_keys, found_rows, get_call, get_calls, listing_text, row_if}
 use Rattle.bk_list.specs.Gathering.{keys_of}
 use Rattle.bk_list.proofs.Gets.{stays_none, stays_then}

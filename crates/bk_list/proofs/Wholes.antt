@@ -52,7 +52,8 @@ use Rattle.bk_session.proofs.Following.{known_way}
 use Rattle.bk_list.specs.declared.lists.ListEnd.{ListEnd}
 use Rattle.bk_list.specs.Gathering.{Gathers, MovesOn, Refuses, Stops, keys_of}
 use Rattle.bk_list.specs.Lists.{IsAsBefore, Lists, Sides, begun_at}
-use Rattle.bk_list.specs.Printing.{Asked, PrintsSorted, Stays, asked_keys, found_rows, get_call, get_calls, row_if}
+use Rattle.bk_list.specs.Getting.{PrintsSorted, Stays}
+use Rattle.bk_list.specs.Printing.{Asked, asked_keys, found_rows, get_call, get_calls, row_if}
 use Rattle.bk_list.specs.Sorting.{AreSorted, key_cmp}
 use Rattle.bk_list.proofs.Gathers.{moves_then, set_same}
 use Rattle.bk_list.proofs.Prints.{no_rows}

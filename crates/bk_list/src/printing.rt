@@ -1,7 +1,7 @@
 //! The keys are sorted, and their pairs are printed one after the other.
 ghost use Rattle.std.specs.Prelude.{◌≡◌, ◌⊎◌, ◌≤◌, Bool, IsTrue};
 ghost use Rattle.bk_disk.specs.Causes.{Rose};
-ghost use Rattle.bk_list.specs.Printing.{PrintsKeys, PrintsSorted, Shows, Stays};
+ghost use Rattle.bk_list.specs.Getting.{PrintsKeys, PrintsSorted, Shows, Stays};
 ghost use Rattle.bk_session.specs.Outgoing.{outgoing};
 ghost use Rattle.bk_store.specs.Events.{KeepsPast};
 

@@ -5,7 +5,7 @@ use Rattle.std.proofs.Common.{List, ℕ, subst}
 use Rattle.std.proofs.lemmas.Cmp.{nat_list_cmp_total}
 use Rattle.std.proofs.lemmas.Fn.{always_returns_same}
 use Rattle.std.proofs.lemmas.List.Sorted.{ranks_by}
-use Rattle.bk_list.specs.Printing.{PrintsKeys}
+use Rattle.bk_list.specs.Getting.{PrintsKeys}
 use Rattle.bk_list.proofs.printing.print.Goals as goal
 
 pub returns-clause-prints : goal.returns-clause-prints
