@@ -30,8 +30,9 @@ class Words(StoreTest):
         here = str(self.folder)
         for words in (
             [], ["frob", here], ["pipe"], ["pipe", here, here], ["pipe", ""], [""], ["Pipe", here], ["pipe ", here],
-            [here], [here, "pipe"], ["fill", here, "10"], ["list", here], ["merge", here], ["check", ""], ["check", here, here],
-            ["drill"],
+            [here], [here, "pipe"], ["merge", here], ["drill"], ["check", ""], ["check", here, here], ["list"], ["list", here, here],
+            ["fill", here], ["fill", here, ""], ["fill", here, "01"], ["fill", here, "+1"], ["fill", here, "-1"], ["fill", here, "1 "],
+            ["fill", here, "10000001"], ["fill", here, "4294967297"], ["fill", "", "1"], ["fill", here, "1", "1"], ["fill", "1", here],
             ["--help", here], ["--version", "--help"], ["-h"], ["help"], ["pipe", "--help", here],
         ):
             with self.subTest(words=words):

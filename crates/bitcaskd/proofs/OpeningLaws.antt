@@ -30,7 +30,8 @@ use Rattle.bk_store.specs.Starting.{opening_of}
 use Rattle.bitcaskd.specs.Opening.{IsCauseOf, IsRefused, KeepsLog, Opens, SaysSettings, files_seen, of_open, of_settings}
 use Rattle.bitcaskd.specs.Commands.{MayEnd}
 use Rattle.bitcaskd.specs.Run.{OpensAt}
-use Rattle.bitcaskd.specs.declared.command.Command.TheVariants.{Pipe}
+use Rattle.bitcaskd.specs.declared.command.Command.TheVariants.{Open}
+use Rattle.bitcaskd.specs.declared.command.Work.{Work}
 
 -- ---- crashes
 
@@ -125,10 +126,16 @@ pub rose_in_run : (tells : Bool) (was : Seen) (store : Shown) (faults : ℕ) →
 rose_in_run tells was store faults opens rose =
     Rose-further was.faults store.files.faults faults opens.came.faults rose
 
-pub refused_ends : (tells : Bool) (was now : Seen) (status : Status) → IsRefused tells was now status → MayEnd Pipe status
-refused_ends tells was now status refused = go status refused.cause
+pub views_in_run : (tells : Bool) (was : Seen) (store : Shown) (views : ℕ) → Opens tells was store
+    → Rose store.files.fallible_views views → Rose was.views views
+views_in_run tells was store views opens rose =
+    Rose-further was.views store.files.fallible_views views opens.came.views rose
+
+pub refused_ends : (tells : Bool) (was now : Seen) (status : Status) → IsRefused tells was now status
+    → (work : Work) → MayEnd (Open work) status
+refused_ends tells was now status refused work = go status refused.cause
   where
-    go : (s : Status) → IsCauseOf s tells was now → MayEnd Pipe s
+    go : (s : Status) → IsCauseOf s tells was now → MayEnd (Open work) s
     go Settings is = tt
     go Disk is = tt
     go Memory is = tt

@@ -39,14 +39,14 @@ opening_with false log v = untold_opening v
 follows_rested : (v : Shown) → IsRested v → Follows false v (untold_opening v) [] []
 follows_rested v rested = follows_untold v rested.limit (λ n. no_slot v.keys.slots n rested.no_fold)
 
-follows_with : (tells whole : Bool) (was : Seen) (log : List Write) (v : Shown) → Opens tells was v
+pub follows_with : (tells whole : Bool) (was : Seen) (log : List Write) (v : Shown) → Opens tells was v
     → (IsTrue whole → IsTrue tells × IsSoundDisk was.told log) → Follows whole v (opening_with whole log v) [] []
 follows_with tells true was log v opens known =
     follows_standing true v (opening_of log v) [] [] refl opens.rested.limit
     (opens.stands (known refl).0 log (known refl).1)
 follows_with tells false was log v opens known = follows_rested v opens.rested
 
-opened_by : (tells : Telling) (old : Outside) (v : Shown) (log : List Write) (whole : Bool)
+pub opened_by : (tells : Telling) (old : Outside) (v : Shown) (log : List Write) (whole : Bool)
     → Opens tells.disk (seen_in old) v → IsOpenedBy tells old log whole (opening_with whole log v)
 opened_by tells old v log true opens = record {
   log = λ t. refl;

@@ -1,6 +1,9 @@
 pub mod Checking
 pub mod Closing
 pub mod Commands
+pub mod Filling
+pub mod Listing
 pub mod Opening
 pub mod Run
+pub mod Stores
 pub mod Words

@@ -1,16 +1,34 @@
 //! The words of the program, and what they ask for.
-ghost use Rattle.std.specs.Prelude.{◌≡◌, ◌↔◌, ◌<◌, Some, IfSome, IsSome, length, map, string_bytes};
+ghost use Rattle.std.specs.Prelude.{◌≡◌, ◌↔◌, ◌<◌, [], ℕ, Some, IfSome, IsSome, length, map, string_bytes};
+ghost use Rattle.std.specs.Fmt.{decimal};
 ghost use Rattle.bitcaskd.specs.declared.command.Command.{Command};
-ghost use Rattle.bitcaskd.specs.Words.{AsksFor, IsCommand, verb_of};
+ghost use Rattle.bitcaskd.specs.Words.{AsksFor, IsCommand, IsCount, IsFillOf, count_words, verb_of};
 
 /// What a run does with its directory.
 #[derive(Clone, Copy, Debug, PartialEq, Eq)]
 pub enum Command {
-    /// It holds a session with the client.
-    Pipe,
+    /// It opens a store and works on it.
+    Open(Work),
     /// It writes the report of the directory.
     Check,
 }
+
+/// What a run does with a store.
+#[derive(Clone, Copy, Debug, PartialEq, Eq)]
+pub enum Work {
+    /// It holds a session with the client.
+    Pipe,
+    /// It lists the pairs that are live, in the order of their keys.
+    List,
+    /// It puts so many pairs.
+    Fill(u32),
+}
+
+/// The most pairs that a run of `fill` puts.
+pub const MOST_PAIRS: u32 = 10_000_000;
+
+// A sign and a leading zero both stand below it.
+const LEAST_FIRST_DIGIT: u8 = b'1';
 
 /// What the words ask for; `None` exactly where they are no command's.
 pub fn command_of(words: &[String]) -> Option<Command>
@@ -19,20 +37,49 @@ pub fn command_of(words: &[String]) -> Option<Command>
 {
     match words {
         [verb, dir] if !dir.is_empty() => command_named(verb.as_str()),
+        [verb, dir, count] if verb.as_str() == "fill" && !dir.is_empty() => fill_of(count.as_str()),
         _ => None,
     }
 }
 
-// The command with this verb.
+// The command of two words with this verb.
 fn command_named(verb: &str) -> Option<Command>
-    ensures found { IfSome result (λ command. verb.now ≡ verb_of command) }
-    ensures only { (command : Command) → verb.now ≡ verb_of command → result ≡ Some command }
+    ensures found { IfSome result (λ command. (verb.now ≡ verb_of command) × (count_words command ≡ [])) }
+    ensures only { (command : Command) → verb.now ≡ verb_of command → count_words command ≡ [] → result ≡ Some command }
 {
     match verb {
-        "pipe" => Some(Command::Pipe),
+        "pipe" => Some(Command::Open(Work::Pipe)),
+        "list" => Some(Command::Open(Work::List)),
         "check" => Some(Command::Check),
         _ => None,
     }
+}
+
+// A fill of as many pairs as this word says.
+fn fill_of(count: &str) -> Option<Command>
+    ensures found { IfSome result (λ command. IsFillOf command count.now) }
+    ensures only { (command : Command) → IsFillOf command count.now → result ≡ Some command }
+{
+    let count = count_of(count)?;
+    Some(Command::Open(Work::Fill(count)))
+}
+
+// How many pairs a run is to put, as a word writes it.
+fn count_of(text: &str) -> Option<u32>
+    ensures found { IfSome result (λ count. IsCount count × (text.now ≡ decimal count)) }
+    ensures only { (count : ℕ) → IsCount count → text.now ≡ decimal count → result ≡ Some count }
+{
+    if text == "0" {
+        return Some(0);
+    }
+    if *text.as_bytes().first()? < LEAST_FIRST_DIGIT {
+        return None;
+    }
+    let count: u32 = text.parse().ok()?;
+    if count > MOST_PAIRS {
+        return None;
+    }
+    Some(count)
 }
 
 /// Which word is the directory, where the words are a command's.
@@ -42,7 +89,7 @@ pub fn directory_of(words: &[String]) -> Option<usize>
     ensures inside { IsSome result → 1 < length words.now }
 {
     match command_of(words) {
-        Some(Command::Pipe | Command::Check) => Some(1),
+        Some(Command::Open(_) | Command::Check) => Some(1),
         None => None,
     }
 }

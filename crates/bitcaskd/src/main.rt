@@ -6,8 +6,11 @@
 mod checking;
 mod closing;
 mod command;
+mod filling;
 mod help;
+mod listing;
 mod opening;
+mod piping;
 mod run;
 #[cfg(test)]
 mod tests;

@@ -3,21 +3,21 @@ ghost use Rattle.std.specs.Prelude.{◌≡◌, ◌⊎◌, IsTrue, map, string_by
 ghost use Rattle.bk_disk.specs.Causes.{Rose};
 ghost use Rattle.bk_load.specs.Courses.{Seen};
 ghost use Rattle.bk_load.specs.Tidying.{NoneLent};
-ghost use Rattle.bitcaskd.specs.Commands.{Does, MayEnd};
+ghost use Rattle.bitcaskd.specs.Commands.{Does, MayEnd, Works};
 ghost use Rattle.bitcaskd.specs.Opening.{IsRested, Opens};
-ghost use Rattle.bitcaskd.specs.Run.{Refuses, Runs, outside, telling};
+ghost use Rattle.bitcaskd.specs.Run.{Refuses, outside, telling};
 ghost use Rattle.bitcaskd.specs.Words.{AsksFor, IsCommand};
 ghost use Rattle.bitcaskd.specs.declared.command.Command.{Command};
-ghost use Rattle.bitcaskd.specs.declared.command.Command.TheVariants.{Pipe};
+ghost use Rattle.bitcaskd.specs.declared.command.Command.TheVariants.{Open};
 
 use crate::checking::check;
-use crate::closing::{close, status_of};
-use crate::command::{Command, command_of};
+use crate::command::{Command, Work, command_of};
+use crate::filling::fill_store;
+use crate::listing::list_store;
 use crate::opening::open_store;
+use crate::piping::pipe_store;
 use bk_base::Status;
-use bk_base::limits::LONGEST_SESSION;
 use bk_disk::{Clock, Disk, Sink, Source};
-use bk_session::session;
 use bk_store::Store;
 use std::alloc::Global;
 
@@ -27,9 +27,10 @@ pub struct Ended<D> {
     pub status: Status,
 }
 
-/// Runs over a disk: it is opened, and a session is held.
+/// Opens the directory of a disk, and works on its store.
 fn over_disk<D: Disk, S: Source, K: Sink, C: Clock>(
     alloc: Global,
+    work: Work,
     disk: D,
     source: &mut S,
     sink: &mut K,
@@ -42,8 +43,8 @@ fn over_disk<D: Disk, S: Source, K: Sink, C: Clock>(
         let new = outside (D.told result.disk) (D.faults result.disk) (D.fallible_views result.disk)
         (D.fallible_outs result.disk) (S.whole source.new) (S.taken source.new) (K.written sink.new) (K.faults sink.new)
         (C.moments clock.new) in
-        Refuses tells old new result.status ⊎ Runs tells old new result.status }
-    ensures ends { MayEnd Pipe result.status }
+        Refuses tells old new result.status ⊎ Works work tells old new result.status }
+    ensures ends { MayEnd (Open work) result.status }
     ensures disk { result.status ≡ Status.Disk → Rose (D.faults disk) (D.faults result.disk)
         ⊎ Rose (D.fallible_views disk) (D.fallible_views result.disk) }
     ensures source { result.status ≡ Status.Source
@@ -51,37 +52,38 @@ fn over_disk<D: Disk, S: Source, K: Sink, C: Clock>(
     ensures sink { result.status ≡ Status.Sink → Rose (K.faults sink.old) (K.faults sink.new) }
 {
     match open_store(alloc, disk) {
-        Ok(store) => over_store(alloc, store, source, sink, clock),
+        Ok(store) => over_store(alloc, work, store, source, sink, clock),
         Err((disk, status)) => Ended { disk, status },
     }
 }
 
-/// Runs over a store that was opened: a session is held, and all writes are synced, whatever ended it.
+/// Works on a store that was opened.
 fn over_store<D: Disk, S: Source, K: Sink, C: Clock>(
     alloc: Global,
-    mut store: Store<D>,
+    work: Work,
+    store: Store<D>,
     source: &mut S,
     sink: &mut K,
     clock: &mut C,
 ) -> Ended<D>
     requires { IsRested store }
-    ensures ran { (was : Seen) → Opens D.tells was store → Runs (telling D.tells S.tells K.tells C.tells)
+    ensures ran { (was : Seen) → Opens D.tells was store → Works work (telling D.tells S.tells K.tells C.tells)
         (outside was.told was.faults was.views was.outs (S.whole source.old) (S.taken source.old)
         (K.written sink.old) (K.faults sink.old) (C.moments clock.old))
         (outside (D.told result.disk) (D.faults result.disk) (D.fallible_views result.disk)
         (D.fallible_outs result.disk) (S.whole source.new) (S.taken source.new) (K.written sink.new) (K.faults sink.new)
         (C.moments clock.new)) result.status }
-    ensures ends { MayEnd Pipe result.status }
-    ensures disk { result.status ≡ Status.Disk → Rose store.files.faults (D.faults result.disk) }
+    ensures ends { MayEnd (Open work) result.status }
+    ensures disk { result.status ≡ Status.Disk → Rose store.files.faults (D.faults result.disk)
+        ⊎ Rose store.files.fallible_views (D.fallible_views result.disk) }
     ensures source { result.status ≡ Status.Source
         → Rose (S.faults source.old) (S.faults source.new) }
     ensures sink { result.status ≡ Status.Sink → Rose (K.faults sink.old) (K.faults sink.new) }
 {
-    let end = session(alloc, &mut store, source, sink, clock, LONGEST_SESSION);
-    let status = close(&mut store, status_of(end));
-    Ended {
-        disk: store.close(),
-        status,
+    match work {
+        Work::Pipe => pipe_store(alloc, store, source, sink, clock),
+        Work::List => list_store(alloc, store, sink, clock),
+        Work::Fill(count) => fill_store(alloc, store, sink, clock, count),
     }
 }
 
@@ -122,7 +124,7 @@ pub fn run<D: Disk, S: Source, K: Sink, C: Clock>(
     ensures sink { result.status ≡ Status.Sink → Rose (K.faults sink.old) (K.faults sink.new) }
 {
     match command_of(words) {
-        Some(Command::Pipe) => over_disk(alloc, disk, source, sink, clock),
+        Some(Command::Open(work)) => over_disk(alloc, work, disk, source, sink, clock),
         Some(Command::Check) => check(alloc, disk, sink),
         None => Ended {
             disk,

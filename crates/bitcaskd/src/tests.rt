@@ -178,11 +178,17 @@ fn largest(rt: HostRuntime) -> Result<(), Fail> {
 const GET: &[u8] = b"GET 1\na\n";
 
 /// Words that are no command's.
-const NO_WORDS: [&[&str]; 7] = [
+const NO_WORDS: [&[&str]; 13] = [
     &["pipe"],
     &["check", ""],
-    &["check", "d", "d"],
+    &["list", "d", "d"],
+    &["fill", "d"],
     &["fill", "d", "01"],
+    &["fill", "d", "+1"],
+    &["fill", "d", ""],
+    &["fill", "d", "10000001"],
+    &["fill", "", "1"],
+    &["fill", "d", "1", "1"],
     &["frob", "d"],
     &["Pipe", "d"],
     &[],
@@ -342,20 +348,25 @@ fn a_run_after_a_crash(rt: HostRuntime) -> Result<(), Fail> {
     Ok(())
 }
 
-/// What `check` writes of the directory, and its status.
-fn checked(alloc: Global, disk: MemDisk, sink_fails: Option<u64>) -> Result<Left, AllocError>
+/// What these words bring over this disk, with no input and a sink that fails at this write.
+fn commanded(
+    alloc: Global,
+    texts: &[&str],
+    disk: MemDisk,
+    sink_fails: Option<u64>,
+) -> Result<Left, AllocError>
     requires { NoneLent (told_by disk).fronts }
 {
     let source = MemSource::new(Vec::new(alloc), None, 1);
     match MemSink::new(alloc, 1_000, sink_fails) {
-        Ok(sink) => run_of(alloc, &["check", "d"], disk, source, sink),
+        Ok(sink) => run_of(alloc, texts, disk, source, sink),
         Err(_) => Err(AllocError),
     }
 }
 
 #[test]
 fn a_check_of_an_empty_directory(rt: HostRuntime) -> Result<(), Fail> {
-    let left = checked(rt.alloc(), MemDisk::new(rt.alloc()), None)?;
+    let left = commanded(rt.alloc(), &["check", "d"], MemDisk::new(rt.alloc()), None)?;
     assert!(rt; left.is(b"CHECKED 0 0\n", Status::Done));
     Ok(())
 }
@@ -365,7 +376,7 @@ fn a_check_of_a_torn_file(rt: HostRuntime) -> Result<(), Fail> {
     let mut bytes = RECORD.to_vec(rt.alloc())?;
     bytes.extend_from_slice(&[0; 48])?;
     let disk = with_file(rt.alloc(), DATA_FILE, &bytes)?;
-    let left = checked(rt.alloc(), disk, None)?;
+    let left = commanded(rt.alloc(), &["check", "d"], disk, None)?;
     assert!(rt;
         left.is(
             b"FILE 1 72 24 24\nTORN 1 24 48\nCHECKED 1 1\n",
@@ -377,7 +388,12 @@ fn a_check_of_a_torn_file(rt: HostRuntime) -> Result<(), Fail> {
 
 #[test]
 fn a_check_whose_sink_fails(rt: HostRuntime) -> Result<(), Fail> {
-    let left = checked(rt.alloc(), MemDisk::new(rt.alloc()), Some(1))?;
+    let left = commanded(
+        rt.alloc(),
+        &["check", "d"],
+        MemDisk::new(rt.alloc()),
+        Some(1),
+    )?;
     assert!(rt; left.is(b"", Status::Sink));
     Ok(())
 }
@@ -386,7 +402,41 @@ fn a_check_whose_sink_fails(rt: HostRuntime) -> Result<(), Fail> {
 fn a_check_whose_disk_fails(rt: HostRuntime) -> Result<(), Fail> {
     let mut disk = MemDisk::new(rt.alloc());
     assert!(rt; disk.fail(2, 0).is_ok());
-    let left = checked(rt.alloc(), disk, None)?;
+    let left = commanded(rt.alloc(), &["check", "d"], disk, None)?;
     assert!(rt; left.is(b"", Status::Disk));
+    Ok(())
+}
+
+#[test]
+fn a_fill(rt: HostRuntime) -> Result<(), Fail> {
+    let left = commanded(
+        rt.alloc(),
+        &["fill", "d", "3"],
+        MemDisk::new(rt.alloc()),
+        None,
+    )?;
+    assert!(rt; left.is(b"FILLED 3 3 75\n", Status::Done));
+    Ok(())
+}
+
+#[test]
+fn a_fill_of_no_pairs(rt: HostRuntime) -> Result<(), Fail> {
+    let left = commanded(
+        rt.alloc(),
+        &["fill", "d", "0"],
+        MemDisk::new(rt.alloc()),
+        None,
+    )?;
+    assert!(rt; left.is(b"FILLED 0 0 0\n", Status::Done));
+    Ok(())
+}
+
+#[test]
+fn a_list(rt: HostRuntime) -> Result<(), Fail> {
+    let mut bytes = SECOND.to_vec(rt.alloc())?;
+    bytes.extend_from_slice(&RECORD)?;
+    let disk = with_file(rt.alloc(), DATA_FILE, &bytes)?;
+    let left = commanded(rt.alloc(), &["list", "d"], disk, None)?;
+    assert!(rt; left.is(b"PAIR 1 1\na1\nPAIR 1 1\nb2\nEND 2\n", Status::Done));
     Ok(())
 }

@@ -1,7 +1,7 @@
 use Rattle.std.proofs.Common.{inl, inr, refl}
 use Rattle.bk_base.specs.declared.statuses.Status.TheVariants.{Disk, Source, Sink}
 use Rattle.bk_load.specs.Courses.{Seen}
-use Rattle.bitcaskd.proofs.OpeningLaws.{caused, keeps_log, refused_ends, rose_in_run}
+use Rattle.bitcaskd.proofs.OpeningLaws.{caused, keeps_log, refused_ends, rose_in_run, views_in_run}
 use Rattle.bitcaskd.proofs.run.over_disk.Goals as goal
 
 pub returns-in-Ok-clause-ran : goal.returns-in-Ok-clause-ran
@@ -22,8 +22,10 @@ returns-in-Ok-clause-disk g c = λ is.
       views = g.D.Disk.fallible_views c.args.disk;
       outs = g.D.Disk.fallible_outs c.args.disk;
     } in
-    inl (rose_in_run g.D.Disk.tells was c.in-Ok.store (g.D.Disk.faults c.over_store.result.disk) c.in-Ok.ensures.opens
-    (c.over_store.ensures.disk is))
+    elim (c.over_store.ensures.disk is) [
+      | inl rose ↦ inl (rose_in_run g.D.Disk.tells was c.in-Ok.store _ c.in-Ok.ensures.opens rose)
+      | inr rose ↦ inr (views_in_run g.D.Disk.tells was c.in-Ok.store _ c.in-Ok.ensures.opens rose)
+    ]
 
 pub returns-in-Err-clause-ran : goal.returns-in-Err-clause-ran
 returns-in-Err-clause-ran g c = inl (record {
@@ -38,7 +40,7 @@ returns-in-Err-clause-ran g c = inl (record {
 })
 
 pub returns-in-Err-clause-ends : goal.returns-in-Err-clause-ends
-returns-in-Err-clause-ends g c = refused_ends _ _ _ c.in-Err.status c.in-Err.ensures.refused
+returns-in-Err-clause-ends g c = refused_ends _ _ _ c.in-Err.status c.in-Err.ensures.refused c.args.work
 
 pub returns-in-Err-clause-disk : goal.returns-in-Err-clause-disk
 returns-in-Err-clause-disk g c = λ is. caused _ _ _ c.in-Err.status Disk c.in-Err.ensures.refused is

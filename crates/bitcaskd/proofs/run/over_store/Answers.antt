@@ -1,43 +1,16 @@
-use Rattle.std.proofs.Common.{subst}
-use Rattle.bk_base.specs.declared.statuses.Status.{Status}
-use Rattle.bk_store.specs.Shown.{Shown}
-use Rattle.bitcaskd.specs.Closing.{ClosesBy}
-use Rattle.bitcaskd.specs.Run.{Outside, Telling, outside, telling}
-use Rattle.bitcaskd.proofs.RunLaws.{disk_rose, runs}
 use Rattle.bitcaskd.proofs.run.over_store.Goals as goal
 
-pub returns-clause-ran : goal.returns-clause-ran
-returns-clause-ran g c = λ was opens log whole known.
-    let tells : Telling = telling g.D.Disk.tells g.S.Source.tells g.K.Sink.tells g.C.Clock.tells in
-    let old : Outside = outside was.told was.faults was.views was.outs (g.S.Source.whole c.args.source.now)
-    (g.S.Source.taken c.args.source.now) (g.K.Sink.written c.args.sink.now) (g.K.Sink.faults c.args.sink.now)
-    (g.C.Clock.moments c.args.clock.now) in
-    let u : Shown = c.close-status.new.store in
-    let new : Outside = outside u.files.told u.files.faults u.files.fallible_views u.files.fallible_outs
-    (g.S.Source.whole c.session-end.new.source) (g.S.Source.taken c.session-end.new.source)
-    (g.K.Sink.written c.session-end.new.sink) (g.K.Sink.faults c.session-end.new.sink)
-    (g.C.Clock.moments c.session-end.new.clock) in
-    rw (c.close.ensures.told, c.close.ensures.faults, c.close.ensures.views, c.close.ensures.outs)
-    (runs tells old new c.args.store c.session-end.new.store u c.session-end.result c.close-status.result
-    c.session-end.ensures.held c.session-end.ensures.past c.session-end.ensures.whole
-    (subst (λ (s : Status). ClosesBy s c.close-status.result g.D.Disk.tells c.session-end.new.store u) c.status_of.ensures
-    c.close-status.ensures.closes)
-    c.close-status.ensures.past log whole opens known)
+pub returns-in-Pipe-clause-ran : goal.returns-in-Pipe-clause-ran
+returns-in-Pipe-clause-ran g c = λ was opens. rw c.in-Pipe.is (c.pipe_store.ensures.ran was opens)
 
-pub returns-clause-disk : goal.returns-clause-disk
-returns-clause-disk g c = λ is.
-    let tells : Telling = telling g.D.Disk.tells g.S.Source.tells g.K.Sink.tells g.C.Clock.tells in
-    let u : Shown = c.close-status.new.store in
-    let old : Outside = outside c.args.store.files.told c.args.store.files.faults c.args.store.files.fallible_views
-    c.args.store.files.fallible_outs (g.S.Source.whole c.args.source.now) (g.S.Source.taken c.args.source.now)
-    (g.K.Sink.written c.args.sink.now) (g.K.Sink.faults c.args.sink.now) (g.C.Clock.moments c.args.clock.now) in
-    let new : Outside = outside u.files.told u.files.faults u.files.fallible_views u.files.fallible_outs
-    (g.S.Source.whole c.session-end.new.source) (g.S.Source.taken c.session-end.new.source)
-    (g.K.Sink.written c.session-end.new.sink) (g.K.Sink.faults c.session-end.new.sink)
-    (g.C.Clock.moments c.session-end.new.clock) in
-    rw c.close.ensures.faults
-    (disk_rose tells old new c.args.store c.session-end.new.store u c.session-end.result c.close-status.result
-    c.session-end.ensures.held c.session-end.ensures.past c.session-end.ensures.whole
-    (subst (λ (s : Status). ClosesBy s c.close-status.result g.D.Disk.tells c.session-end.new.store u) c.status_of.ensures
-    c.close-status.ensures.closes)
-    c.close-status.ensures.past c.requires is)
+pub returns-in-Fill-clause-ran : goal.returns-in-Fill-clause-ran
+returns-in-Fill-clause-ran g c = λ was opens.
+    rw c.in-Fill.is
+    (c.fill_store.ensures.ran was g.S.Source.tells (g.S.Source.whole c.args.source.now) (g.S.Source.taken c.args.source.now)
+    opens)
+
+pub returns-in-List-clause-ran : goal.returns-in-List-clause-ran
+returns-in-List-clause-ran g c = λ was opens.
+    rw c.in-List.is
+    (c.list_store.ensures.ran was g.S.Source.tells (g.S.Source.whole c.args.source.now) (g.S.Source.taken c.args.source.now)
+    opens)

@@ -75,3 +75,10 @@ returns-in-None-clause-ran g c = λ command asked.
 pub returns-in-None-clause-ends : goal.returns-in-None-clause-ends
 returns-in-None-clause-ends g c = λ command asked.
     none_asked c.command_of.result (map string_bytes c.args.words.now) command c.in-None.is c.command_of.ensures.only asked
+
+pub returns-in-Some-Open-clause-ran : goal.returns-in-Some-Open-clause-ran
+returns-in-Some-Open-clause-ran g c = λ command asked.
+    let one =
+    one_command c.command_of.result (map string_bytes c.args.words.now) c.in-Some-Open.field-0 command c.in-Some-Open.is
+    c.command_of.ensures.only asked in
+    rw (sym one, c.in-Some-Open.field-0-is) c.over_disk.ensures.ran

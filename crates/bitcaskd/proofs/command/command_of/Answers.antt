@@ -1,0 +1,34 @@
+use Rattle.std.proofs.Common.{◌≡◌, ◌∙◌, ◌<◌, ◌∷◌, [], List, ℕ, ap, arith, codes, length, map, string_bytes, sym}
+use Rattle.std.proofs.lemmas.Grind.{common_steps}
+use Rattle.std.proofs.lemmas.Slice.Eq.{bytes_eq-Decides}
+use Rattle.bitcaskd.proofs.WordLaws.{fill_found, fill_only, three_words}
+use Rattle.bitcaskd.proofs.command.command_of.Goals as goal
+
+pub returns-in-len3-clause-found : goal.returns-in-len3-clause-found
+returns-in-len3-clause-found c =
+    let words =
+    three_words c.args.words.now c.verb-item-then-words-lt4.result c.dir-item-then-words-lt4.result c.count-item.result
+    c.in-len3.len_at_least c.in-len3.len_below c.verb-item-then-words-lt4.is c.dir-item-then-words-lt4.is c.count-item.is in
+    let verb : string_bytes c.verb-item-then-words-lt4.result ≡ codes "fill" = sym c.as_str-then-words-lt4.ensures.value
+    ∙ (bytes_eq-Decides _ _).0 (sym c.if-eq.ensures) in
+    let dir = string_bytes c.dir-item-then-words-lt4.result in
+    let text = c.as_str-in-len3.result.now in
+    let three : map string_bytes c.args.words.now ≡ codes "fill" ∷ dir ∷ text ∷ [] =
+    ap (λ ws. map string_bytes ws) words ∙ ap (λ (w : List ℕ). w ∷ dir ∷ string_bytes c.count-item.result ∷ []) verb
+    ∙ ap (λ (w : List ℕ). codes "fill" ∷ dir ∷ w ∷ []) (sym c.as_str-in-len3.ensures.value) in
+    let some : 0 < length dir = grind (arith, common_steps, c.if-not-is_empty-2.ensures) in
+    fill_found c.fill_of.result dir text (map string_bytes c.args.words.now) three some c.fill_of.ensures.found
+
+pub returns-in-len3-clause-only : goal.returns-in-len3-clause-only
+returns-in-len3-clause-only c =
+    let words =
+    three_words c.args.words.now c.verb-item-then-words-lt4.result c.dir-item-then-words-lt4.result c.count-item.result
+    c.in-len3.len_at_least c.in-len3.len_below c.verb-item-then-words-lt4.is c.dir-item-then-words-lt4.is c.count-item.is in
+    let verb : string_bytes c.verb-item-then-words-lt4.result ≡ codes "fill" = sym c.as_str-then-words-lt4.ensures.value
+    ∙ (bytes_eq-Decides _ _).0 (sym c.if-eq.ensures) in
+    let dir = string_bytes c.dir-item-then-words-lt4.result in
+    let text = c.as_str-in-len3.result.now in
+    let three : map string_bytes c.args.words.now ≡ codes "fill" ∷ dir ∷ text ∷ [] =
+    ap (λ ws. map string_bytes ws) words ∙ ap (λ (w : List ℕ). w ∷ dir ∷ string_bytes c.count-item.result ∷ []) verb
+    ∙ ap (λ (w : List ℕ). codes "fill" ∷ dir ∷ w ∷ []) (sym c.as_str-in-len3.ensures.value) in
+    fill_only c.fill_of.result dir text (map string_bytes c.args.words.now) three c.fill_of.ensures.only
