@@ -159,3 +159,8 @@ same_answer s new other (line_next l) (Bad o) p q = absurd (q.0.none l new.rest 
 same_answer s new other (Bad o) Need p q = absurd (p.0.ended q.0)
 same_answer s new other (Bad o) (line_next l) p q = absurd (p.0.none l other.rest q.0)
 same_answer s new other (Bad o) (Bad r) p q = (ap Bad (p.1 ∙ sym q.1), p.2 ∙ sym q.2)
+
+-- a line has bytes, so what follows one is shorter
+pub shorter : (s : Script) (l : Line) (rest : List ℕ) → StandsNext s l rest → length rest < length s.rest
+shorter s l rest stands =
+    omega (arith, ap length stands.whole, length-append (line_text l) rest, text_length l)
