@@ -2,7 +2,7 @@
 use Rattle.std.proofs.Common.{◌≡◌, ◌∙◌, ℕ, ◌≤◌, List, [], Bool, false, map, refl, sym, ap, subst, arith, inl, inr, IsTrue, Result, Err}
 use Rattle.bk_base.specs.declared.names.Name.{Name}
 use Rattle.bk_base.specs.declared.statuses.Status.{Status}
-use Rattle.bk_base.specs.declared.statuses.Status.TheVariants.{Done, Memory, Words, Disk, Source, Sink, Syntax, Settings, Damaged, Full, Long, NotBuilt, Door}
+use Rattle.bk_base.specs.declared.statuses.Status.TheVariants.{Done, Memory, Words, Disk, Source, Sink, Syntax, Settings, Damaged, Full, Long, Door}
 use Rattle.bk_base.specs.declared.writes.Write.{Write}
 use Rattle.bk_disk.specs.Causes.{Rose}
 use Rattle.bk_disk.specs.Crashes.{MayLeave, front_of}
@@ -147,7 +147,6 @@ refused_ends tells was now status refused work = go status refused.cause
     go Damaged is = absurd is
     go Full is = absurd is
     go Long is = absurd is
-    go NotBuilt is = absurd is
     go Door is = absurd is
 
 -- what such a refusal says of a status

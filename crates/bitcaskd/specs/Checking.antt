@@ -14,7 +14,7 @@ use Rattle.bk_report.specs.declared.errors.ReportError.TheVariants.{Disk as repo
 use Rattle.bitcaskd.specs.Opening.{IsCauseOf, KeepsLog, SaysSettings}
 use Rattle.bitcaskd.specs.Run.{Outside, Telling, seen_in}
 
--- What was written: the report of the directory as it was found; a first part of it, where the sink failed; or
+-- What was written: the report of the directory once it was recovered; a first part of it, where the sink failed; or
 -- else nothing.
 abbrev pub Reports : Status → Bool → Told → Told → List ℕ → Type 0
 Reports Done tells was now output = IsTrue tells → IsReportOf was now output

@@ -108,7 +108,6 @@ fn word_of(status: Status) -> Option<&'static str> {
         Status::Damaged => Some("damaged"),
         Status::Full => Some("full"),
         Status::Long => Some("long"),
-        Status::NotBuilt => Some("notbuilt"),
         Status::Door => Some("door"),
     }
 }

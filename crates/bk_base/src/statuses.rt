@@ -16,12 +16,11 @@ pub enum Status {
     Damaged,
     Full,
     Long,
-    NotBuilt,
-    Door,
+    Door = 12,
 }
 
 impl Status {
-    /// The exit status of the process: 0 for `Done`, the others from 1 to 12 in their order.
+    /// The exit status of the process: 0 for `Done`, the others from 1 to 10 in their order, and 12 for `Door`; 11 is no status.
     pub fn code(&self) -> u8
         ensures { result ≡ code_of self.now }
     {

@@ -20,7 +20,7 @@ pub struct Active {
 
 /// What is known of the data files.
 #[derive(Debug, Drop)]
-pub(crate) struct Catalog {
+pub struct Catalog {
     /// The rows in order of id.
     pub(crate) rows: Vec<Row>,
     pub(crate) active: Option<Active>,

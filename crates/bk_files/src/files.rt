@@ -6,7 +6,7 @@ ghost use Rattle.bk_disk.specs.Told.{IsAbsent, IsWithin, range_of};
 ghost use Rattle.bk_base.specs.declared.names.Name.{Name};
 ghost use Rattle.bk_files.specs.Catalog.{Begins, Grows, counted, main, row_of, torn};
 ghost use Rattle.bk_files.specs.Rows.{AreAtRest, IsRecord};
-ghost use Rattle.bk_files.specs.Files.{HalfRepaired, HalfRolled, IsConsistent, IsFromScratch, IsSyncedIfSealed, Repaired, Rolled, Settles, Synchronized, active_id, active_len, active_name, has_active, image_of, is_due, is_torn, last_of, rows_of};
+ghost use Rattle.bk_files.specs.Files.{HalfRepaired, HalfRolled, IsConsistent, IsFromScratch, IsSyncedIfSealed, Repaired, Rolled, Settles, Synchronized, active_id, active_len, active_name, has_active, image_of, is_due, known_of, is_torn, last_of, rows_of};
 
 use crate::catalog::{Catalog, name_of};
 use crate::errors::RollError;
@@ -62,6 +62,29 @@ impl<D: Disk> Files<D> {
                 max_file,
             },
         }
+    }
+
+    /// The disk, and what is known of its files.
+    pub fn into_parts(self) -> (D, Catalog)
+        ensures told { D.told result.0 ≡ self.told }
+        ensures faults { D.faults result.0 ≡ self.faults }
+        ensures views { D.fallible_views result.0 ≡ self.fallible_views }
+        ensures outs { D.fallible_outs result.0 ≡ self.fallible_outs }
+        ensures catalog { known_of result.1 ≡ self.catalog }
+    {
+        let Files { disk, catalog } = self;
+        (disk, catalog)
+    }
+
+    /// The files of a disk, of which this is known.
+    pub fn from_parts(disk: D, catalog: Catalog) -> Files<D>
+        ensures told { result.told ≡ D.told disk }
+        ensures faults { result.faults ≡ D.faults disk }
+        ensures views { result.fallible_views ≡ D.fallible_views disk }
+        ensures outs { result.fallible_outs ≡ D.fallible_outs disk }
+        ensures catalog { result.catalog ≡ known_of catalog }
+    {
+        Files { disk, catalog }
     }
 
     /// Whether a text of this many bytes needs a roll first.

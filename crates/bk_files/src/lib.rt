@@ -7,7 +7,7 @@ mod errors;
 mod files;
 mod scan;
 
-pub use catalog::Active;
+pub use catalog::{Active, Catalog};
 pub use errors::RollError;
 pub use files::Files;
 pub use scan::{Found, FoundKey, Scan, ScanError, first_records, records_go_on};

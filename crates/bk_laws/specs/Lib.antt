@@ -1,7 +1,6 @@
 pub mod Log
 pub mod History
 pub mod Wire
-pub mod Session
 pub mod Record
 pub mod Version
 pub mod SwapList

@@ -40,8 +40,11 @@ fused calls effect p = record {
   fuse = Some (record { call = plus p.calls calls; effect = effect });
 }
 
+abbrev pub counted_to : ℕ → Planned → Planned
+counted_to calls p = record { calls = calls; earlier = p.earlier; later = p.later; fuse = p.fuse }
+
 abbrev pub one_later : Planned → Planned
-one_later p = record { calls = plus p.calls 1; earlier = p.earlier; later = p.later; fuse = p.fuse }
+one_later p = counted_to (plus p.calls 1) p
 
 abbrev pub or_else : Option ℕ → Option ℕ → Option ℕ
 or_else None other = other
@@ -58,6 +61,10 @@ burnt call None cs = effect_of call cs
 burnt call (Some fuse) cs =
     cond (nat_le call fuse.call) (effect_of call cs) (Some (cond (call - fuse.call == 1) fuse.effect 0))
 
--- the effect with which the next call fails, None where it doesn't
+-- the effect with which the call of this number fails, None where it doesn't
+abbrev pub effect_at : ℕ → Planned → Option ℕ
+effect_at call p = or_else (effect_of call p.later) (burnt call p.fuse p.earlier)
+
+-- the effect of the next call
 abbrev pub next_effect : Planned → Option ℕ
-next_effect p = let call = plus p.calls 1 in or_else (effect_of call p.later) (burnt call p.fuse p.earlier)
+next_effect p = effect_at (plus p.calls 1) p

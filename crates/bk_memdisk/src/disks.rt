@@ -110,6 +110,13 @@ impl MemDisk {
         self.directory.bytes(name)
     }
 
+    /// How many calls were made, those that failed among them.
+    pub fn calls(&self) -> u64
+        ensures { result ≡ (calls_of self.now).calls }
+    {
+        self.calls.calls()
+    }
+
     /// The nth call from now, 1 is the next, fails with this effect: of an append so many bytes get
     /// through; a call on the directory and a cut are not done at 0 and done at any other number.
     pub fn fail(&mut self, nth: u64, effect: u64) -> Result<(), Memory>

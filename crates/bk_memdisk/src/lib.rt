@@ -19,6 +19,7 @@ pub use choices::Choice;
 pub use clocks::ListClock;
 pub use disks::MemDisk;
 pub use outs::MemOut;
+pub use plans::Plan;
 pub use sinks::MemSink;
 pub use sources::MemSource;
 pub use views::MemView;

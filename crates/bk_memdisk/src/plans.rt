@@ -1,6 +1,6 @@
 //! Which calls fail, and with what effect.
 ghost use Rattle.std.specs.Prelude.{◌≡◌, OnOk, OnErr};
-ghost use Rattle.bk_memdisk.specs.Plans.{nothing_chosen, chosen, fused, next_effect, one_later, effect_of};
+ghost use Rattle.bk_memdisk.specs.Plans.{nothing_chosen, chosen, counted_to, fused, next_effect, one_later, effect_at, effect_of};
 ghost use Rattle.bk_memdisk.specs.Chosen.{pairs_of};
 
 use std::alloc::{AllocError, Global};
@@ -21,9 +21,9 @@ struct Fuse {
     earlier: usize,
 }
 
-// The choices of calls that fail. Where a call is chosen more than once, the last choice counts.
+/// The choices of calls that fail. Where a call is chosen more than once, the last choice counts.
 #[derive(Drop)]
-pub(crate) struct Plan {
+pub struct Plan {
     calls: u64,
     chosen: Vec<Chosen>,
     fuse: Option<Fuse>,
@@ -42,7 +42,8 @@ impl Model for Plan {
 }
 
 impl Plan {
-    pub(crate) fn new(alloc: Global) -> Plan
+    /// No call was made, and none is chosen.
+    pub fn new(alloc: Global) -> Plan
         ensures { result ≡ nothing_chosen }
     {
         Plan {
@@ -52,8 +53,8 @@ impl Plan {
         }
     }
 
-    // The nth call from now fails with this effect.
-    pub(crate) fn choose(&mut self, nth: u64, effect: u64) -> Result<(), AllocError>
+    /// The nth call from now fails with this effect.
+    pub fn choose(&mut self, nth: u64, effect: u64) -> Result<(), AllocError>
         ensures ok { OnOk result (self.new ≡ chosen nth effect self.old) }
         ensures err { OnErr result (self.new ≡ self.old) }
     {
@@ -64,8 +65,8 @@ impl Plan {
         Ok(())
     }
 
-    // After so many calls all fail, the first with this effect and the others with 0.
-    pub(crate) fn fuse(&mut self, calls: u64, effect: u64)
+    /// After so many calls all fail, the first with this effect and the others with 0.
+    pub fn fuse(&mut self, calls: u64, effect: u64)
         ensures { self.new ≡ fused calls effect self.old }
     {
         self.fuse = Some(Fuse {
@@ -75,23 +76,44 @@ impl Plan {
         });
     }
 
+    /// How many calls were made.
+    pub fn calls(&self) -> u64
+        ensures { result ≡ self.now.calls }
+    {
+        self.calls
+    }
+
+    /// So many calls were made.
+    pub fn count_to(&mut self, calls: u64)
+        ensures { self.new ≡ counted_to calls self.old }
+    {
+        self.calls = calls;
+    }
+
     // Counts a call, and gives the effect with which it fails, where it does.
     pub(crate) fn next(&mut self) -> Option<u64>
         ensures effect { result ≡ next_effect self.old }
         ensures counted { self.new ≡ one_later self.old }
     {
         self.calls = self.calls.saturating_add(1);
+        self.effect(self.calls)
+    }
+
+    /// The effect with which the call of this number fails, where it was chosen. The first call is number 1.
+    pub fn effect(&self, call: u64) -> Option<u64>
+        ensures { result ≡ effect_at call self.now }
+    {
         let Some(fuse) = self.fuse else {
-            return last_effect(&self.chosen, self.calls);
+            return last_effect(&self.chosen, call);
         };
         let (earlier, later) = self.chosen.as_slice().split_at(fuse.earlier);
-        if let Some(effect) = last_effect(later, self.calls) {
+        if let Some(effect) = last_effect(later, call) {
             return Some(effect);
         }
-        if self.calls <= fuse.call {
-            return last_effect(earlier, self.calls);
+        if call <= fuse.call {
+            return last_effect(earlier, call);
         }
-        Some(if self.calls - fuse.call == 1 {
+        Some(if call - fuse.call == 1 {
             fuse.effect
         } else {
             0

@@ -37,6 +37,7 @@ pub fn report_directory<D: Disk, K: Sink>(
 {
     match recover(alloc, disk) {
         Ok(loaded) => {
+            // The law of the keydir, that no key stands twice in it, comes with this call.
             let _keys = loaded.keydir.len();
             send_report(alloc, &loaded, sink)
         }

@@ -9,6 +9,8 @@ use Rattle.bk_image.specs.Readings.{In, Reading}
 use Rattle.bk_image.specs.Core.{ActiveFile}
 use Rattle.bk_image.specs.Known.{known_of}
 use Rattle.bk_files.specs.declared.catalog.Active.{Active}
+use Rattle.bk_disk.specs.Told.{nothing_told}
+use Rattle.bk_files.specs.Catalog.{Known}
 use Rattle.bk_files.specs.Files.{IsConsistent, Seen}
 use Rattle.bk_keydir.specs.declared.slots.Slot.{Slot}
 use Rattle.bk_keydir.specs.Slots.{IsOpen}
@@ -44,6 +46,25 @@ snapshot_of v = record {
 
 abbrev pub settings_of : Settings → StoreSettings
 settings_of s = record { dead_bytes = s.dead_bytes; max_file = s.max_file; ttl = s.ttl; dead_percent = s.dead_percent }
+
+-- what a store shows of itself without its disk
+pub record DetachedShown : Type 0 where
+  pub catalog : Known
+  pub keys : KeydirShown
+  pub seq : ℕ
+  pub settings : Settings
+  pub buffer : ℕ
+
+-- the files of a store without its disk
+abbrev pub without_disk : Known → Seen
+without_disk catalog = record {
+  told = nothing_told;
+  faults = 0;
+  fallible_views = 0;
+  fallible_outs = 0;
+  room = 0;
+  catalog = catalog;
+}
 
 -- What holds of each store over every disk.
 

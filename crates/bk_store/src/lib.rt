@@ -22,5 +22,5 @@ pub use folds::{Fold, Row2};
 pub use loans::Loan;
 pub use prepared::Prepared;
 pub use puts::Stored;
-pub use store::Store;
+pub use store::{Detached, Store};
 pub use sweeps::Stat;

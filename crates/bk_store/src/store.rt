@@ -1,12 +1,13 @@
 //! The store.
 ghost use Rattle.std.specs.Prelude.{◌≡◌, [], None, List, IsTrue};
 ghost use Rattle.bk_base.specs.declared.writes.Write.{Write};
+ghost use Rattle.bk_files.specs.Files.{IsConsistentWith};
 ghost use Rattle.bk_store.specs.Standing.{StandsFor};
 ghost use Rattle.bk_store.specs.Starting.{AreFilesOf, IsInOrder, IsLoadOf, opening_of};
 
 use bk_base::Seq;
 use bk_disk::Disk;
-use bk_files::Files;
+use bk_files::{Catalog, Files};
 use bk_keydir::{Keydir, Loaded};
 use bk_policy::Settings;
 use std::alloc::Global;
@@ -41,6 +42,35 @@ impl<D: Disk> Model for Store<D> {
     } };
 
     ghost invariant = { λ s. IsSteady D.tells s.files s.keydir s.last.0 };
+}
+
+/// A store without its disk, as it is while a disk in memory is told which of its calls fail.
+#[derive(Drop)]
+pub struct Detached {
+    catalog: Catalog,
+    keydir: Keydir,
+    buffer: Vec<u8>,
+    last: Seq,
+    settings: Settings,
+}
+
+impl Model for Detached {
+    ghost use Rattle.std.specs.Prelude.{false};
+    ghost use Rattle.std.specs.Vec.{vec_capacity};
+    ghost use Rattle.bk_files.specs.Files.{known_of};
+    ghost use Rattle.bk_store.specs.Shown.{DetachedShown, IsSteady, without_disk};
+
+    ghost Value = { DetachedShown };
+
+    ghost view = { λ s. record {
+      catalog = known_of s.catalog;
+      keys = s.keydir;
+      seq = s.last.0;
+      settings = s.settings;
+      buffer = vec_capacity s.buffer;
+    } };
+
+    ghost invariant = { λ s. IsSteady false (without_disk (known_of s.catalog)) s.keydir s.last.0 };
 }
 
 impl<D: Disk> Store<D> {
@@ -96,5 +126,67 @@ impl<D: Disk> Store<D> {
             settings: _,
         } = self;
         files.into_disk()
+    }
+
+    /// The store's disk, and the store without it. It makes no disk call.
+    pub fn detach(self) -> (D, Detached)
+        ensures told { D.told result.0 ≡ self.files.told }
+        ensures faults { D.faults result.0 ≡ self.files.faults }
+        ensures views { D.fallible_views result.0 ≡ self.files.fallible_views }
+        ensures outs { D.fallible_outs result.0 ≡ self.files.fallible_outs }
+        ensures rest { result.1 ≡ record {
+          catalog = self.files.catalog;
+          keys = self.keys;
+          seq = self.seq;
+          settings = self.settings;
+          buffer = self.buffer;
+        } }
+        ensures consistent { IsTrue D.tells → IsConsistentWith result.1.catalog (D.told result.0) }
+    {
+        let Store {
+            files,
+            keydir,
+            buffer,
+            last,
+            settings,
+        } = self;
+        let (disk, catalog) = files.into_parts();
+        let detached = Detached {
+            catalog,
+            keydir,
+            buffer,
+            last,
+            settings,
+        };
+        (disk, detached)
+    }
+
+    /// The store over a disk, of which it knows what it knew of the one that it was detached from.
+    pub fn attach(disk: D, detached: Detached) -> Store<D>
+        requires { IsTrue D.tells → IsConsistentWith detached.catalog (D.told disk) }
+        ensures told { result.files.told ≡ D.told disk }
+        ensures faults { result.files.faults ≡ D.faults disk }
+        ensures views { result.files.fallible_views ≡ D.fallible_views disk }
+        ensures outs { result.files.fallible_outs ≡ D.fallible_outs disk }
+        ensures catalog { result.files.catalog ≡ detached.catalog }
+        ensures keys { result.keys ≡ detached.keys }
+        ensures seq { result.seq ≡ detached.seq }
+        ensures settings { result.settings ≡ detached.settings }
+        ensures buffer { result.buffer ≡ detached.buffer }
+    {
+        let Detached {
+            catalog,
+            keydir,
+            buffer,
+            last,
+            settings,
+        } = detached;
+        Store {
+            files: Files::from_parts(disk, catalog),
+            keydir,
+            buffer,
+            last,
+            settings,
+        }
     }
 }

@@ -18,7 +18,6 @@ use std::alloc::Global;
 use std::hint::spin_loop;
 use std::process::Abort;
 use std::sync::Wait;
-use std::test::Fail;
 use std::thread::{Threads, for_each_mut, join_mut};
 
 /// Numbers, in the order in which they were pushed.
@@ -109,48 +108,88 @@ fn opened<R: Abort>(rt: &R, alloc: Global, first: u64) -> Opened<Tally>
     }
 }
 
+/// A turn, and two places with a pass each. The left one has all the weight but that of the right one.
+struct Halves {
+    turn: Turn<Tally>,
+    left: Option<Pass>,
+    right: Option<Pass>,
+}
+
+fn split_once<R: Abort>(rt: &R, alloc: Global, first: u64) -> Halves
+    ensures left { HasPass (turn_id result.turn) result.left × ((place_view result.left).weight ≡ 4294967295) }
+    ensures right { HasPass (turn_id result.turn) result.right × ((place_view result.right).weight ≡ 1) }
+{
+    let Opened { turn, pass } = opened(rt, alloc, first);
+    let Two { left, right } = turn.split(pass).unwrap();
+    Halves {
+        turn,
+        left: Some(left),
+        right: Some(right),
+    }
+}
+
+/// The numbers of a turn that is closed, and the place up to which its passes had seen them.
+fn closed(turn: Turn<Tally>, left: Option<Pass>, right: Option<Pass>) -> (u64, Vec<u64>)
+    requires left { HasPass (turn_id turn) left × ((place_view left).weight ≡ 4294967295) }
+    requires right { HasPass (turn_id turn) right × ((place_view right).weight ≡ 1) }
+{
+    let joined = turn.join(left.unwrap(), right.unwrap());
+    let seen_to = joined.seen_to();
+    let Tally { numbers } = turn.close(joined);
+    (seen_to, numbers)
+}
+
+/// The place up to which the pass has seen the history.
+fn seen_to(place: &Option<Pass>) -> u64 {
+    match place {
+        Some(pass) => pass.seen_to(),
+        None => 0,
+    }
+}
+
 #[test]
-fn an_exhausted_ticket_word_is_spent(rt: HostRuntime) -> Result<(), Fail> {
+fn an_exhausted_ticket_word_is_spent(rt: HostRuntime) {
     let Opened { turn, pass } = opened(&rt, rt.alloc(), u64::MAX);
     let mut place = Some(pass);
     assert!(rt; !push(&rt, &turn, &mut place, 7, 0));
     assert!(rt; !push(&rt, &turn, &mut place, 8, 0));
     let tally = turn.close(place.unwrap());
     assert!(rt; tally.numbers.is_empty());
-    Ok(())
 }
 
 #[test]
-fn split_passes_enter_and_join(rt: HostRuntime) -> Result<(), Fail> {
-    let Opened { turn, pass } = opened(&rt, rt.alloc(), 0);
-    let Two { left, right } = turn.split(pass).unwrap();
-    let mut left = Some(left);
-    let mut right = Some(right);
+fn split_passes_enter_and_join(rt: HostRuntime) {
+    let Halves {
+        turn,
+        mut left,
+        mut right,
+    } = split_once(&rt, rt.alloc(), 0);
     push_all(&rt, &turn, &mut left, 1, 2, 0);
     push_all(&rt, &turn, &mut right, 2, 4, 0);
-    let left = left.unwrap();
-    let right = right.unwrap();
-    assert_eq!(rt; (left.seen_to(), right.seen_to()), (1, 3));
-    let joined = turn.join(left, right);
-    assert_eq!(rt; joined.seen_to(), 3);
-    let tally = turn.close(joined);
-    assert_eq!(rt; tally.numbers.as_slice(), [1, 2, 3].as_slice());
-    Ok(())
+    assert_eq!(rt; (seen_to(&left), seen_to(&right)), (1, 3));
+    let (seen_to, numbers) = closed(turn, left, right);
+    assert_eq!(rt; seen_to, 3);
+    assert_eq!(rt; numbers.as_slice(), [1, 2, 3].as_slice());
+}
+
+/// The numbers below `end`, in order.
+fn assert_all<R: Abort>(rt: &R, alloc: Global, numbers: Vec<u64>, end: u64) {
+    let mut numbers = numbers;
+    numbers.sort().expect(rt, "memory");
+    let wanted: Vec<u64> = (0..end).collect(alloc).expect(rt, "memory");
+    assert_eq!(*rt; numbers, wanted);
 }
 
 #[test]
-fn two_threads_push_a_thousand_numbers_each(rt: HostRuntime) -> Result<(), Fail> {
-    let Opened { turn, pass } = opened(&rt, rt.alloc(), 1);
-    let Two { left, right } = turn.split(pass).unwrap();
-    let mut left = Some(left);
-    let mut right = Some(right);
+fn two_threads_push_a_thousand_numbers_each(rt: HostRuntime) {
+    let Halves {
+        turn,
+        mut left,
+        mut right,
+    } = split_once(&rt, rt.alloc(), 1);
     push_by_two(&rt, &turn, &mut left, &mut right);
-    let joined = turn.join(left.unwrap(), right.unwrap());
-    let mut tally = turn.close(joined);
-    tally.numbers.sort()?;
-    let wanted: Vec<u64> = (0..2_000u64).collect(rt.alloc())?;
-    assert_eq!(rt; tally.numbers, wanted);
-    Ok(())
+    let (_, numbers) = closed(turn, left, right);
+    assert_all(&rt, rt.alloc(), numbers, 2_000);
 }
 
 fn push_by_two<R: Threads + Wait + Abort + Sync>(
@@ -178,15 +217,15 @@ fn push_by_two<R: Threads + Wait + Abort + Sync>(
 }
 
 #[test]
-fn eight_threads_push_and_all_passes_come_back(rt: HostRuntime) -> Result<(), Fail> {
-    push_by_many(&rt, rt.alloc(), 8, 0)
+fn eight_threads_push_and_all_passes_come_back(rt: HostRuntime) {
+    push_by_many(&rt, rt.alloc(), 8, 0);
 }
 
 // More threads than a small machine has processors, and holdings longer than the looks at the
 // ticket: the threads sleep, and each is woken.
 #[test]
-fn sixteen_threads_sleep_and_are_woken(rt: HostRuntime) -> Result<(), Fail> {
-    push_by_many(&rt, rt.alloc(), 16, 5_000)
+fn sixteen_threads_sleep_and_are_woken(rt: HostRuntime) {
+    push_by_many(&rt, rt.alloc(), 16, 5_000);
 }
 
 /// Pushes a hundred numbers in each of at most 16 threads, and finds them all.
@@ -195,19 +234,16 @@ fn push_by_many<R: Threads + Wait + Abort + Sync>(
     alloc: Global,
     threads: usize,
     spins: u32,
-) -> Result<(), Fail> {
+) {
     let threads = threads.min(16);
     let count = 100 * threads as u64;
     let Opened { turn, pass } = opened(rt, alloc, 1);
     let mut places = empty_places(alloc, threads).expect(rt, "memory");
     let pass = push_by_all(rt, &turn, pass, places.as_mut_slice(), spins);
     drop_places(places);
-    assert_eq!(rt; pass.seen_to(), count + 1);
-    let mut tally = turn.close(pass);
-    tally.numbers.sort()?;
-    let wanted: Vec<u64> = (0..count).collect(alloc)?;
-    assert_eq!(rt; tally.numbers, wanted);
-    Ok(())
+    assert_eq!(*rt; pass.seen_to(), count + 1);
+    let Tally { numbers } = turn.close(pass);
+    assert_all(rt, alloc, numbers, count);
 }
 
 fn push_by_all<R: Threads + Wait + Abort + Sync>(
@@ -254,18 +290,17 @@ fn push_by_each<R: Threads + Wait + Abort + Sync>(
 }
 
 #[test]
-fn a_pass_is_split_and_joined_while_others_hold(rt: HostRuntime) -> Result<(), Fail> {
-    let Opened { turn, pass } = opened(&rt, rt.alloc(), 5);
-    let Two { left, right } = turn.split(pass).unwrap();
-    let mut left = Some(left);
-    let mut right = Some(right);
+fn a_pass_is_split_and_joined_while_others_hold(rt: HostRuntime) {
+    let Halves {
+        turn,
+        mut left,
+        mut right,
+    } = split_once(&rt, rt.alloc(), 5);
     split_beside_pushes(&rt, &turn, &mut left, &mut right);
-    let joined = turn.join(left.unwrap(), right.unwrap());
-    assert_eq!(rt; joined.seen_to(), 505);
-    let tally = turn.close(joined);
-    let wanted: Vec<u64> = (0..500u64).collect(rt.alloc())?;
-    assert_eq!(rt; tally.numbers, wanted);
-    Ok(())
+    let (seen_to, numbers) = closed(turn, left, right);
+    assert_eq!(rt; seen_to, 505);
+    let wanted: Vec<u64> = (0..500u64).collect(rt.alloc()).expect(&rt, "memory");
+    assert_eq!(rt; numbers, wanted);
 }
 
 /// Splits a pass and joins its parts again, so many times.
