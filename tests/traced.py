@@ -14,32 +14,40 @@ import unittest
 from support import MOST_IN_FILE, SECONDS, StoreTest, run
 
 MOST_BYTES = 4 * MOST_IN_FILE  # that a file may take in a run
-SOURCE = pathlib.Path(__file__).resolve().parent / "preload" / "calls.c"
+SOURCES = pathlib.Path(__file__).resolve().parent / "preload"
 
 
 @functools.lru_cache(maxsize=None)
-def library():
-    """The path of the library, built once. Skips the test where that can't be done, or the program doesn't load it."""
+def built(source):
+    """The path of the library that this source makes, built once. Skips the test where that can't be done."""
     compiler = shutil.which("cc")
     if not compiler:
         raise unittest.SkipTest("needs a C compiler: there is no `cc` (Debian: apt-get install gcc libc6-dev)")
     folder = tempfile.TemporaryDirectory()
     atexit.register(folder.cleanup)
-    built = os.path.join(folder.name, "calls.so")
-    words = [compiler, "-shared", "-fPIC", "-O1", "-Wall", "-Wextra", "-o", built, str(SOURCE)]
+    library = os.path.join(folder.name, "library.so")
+    words = [compiler, "-shared", "-fPIC", "-O1", "-Wall", "-Wextra", "-o", library, str(SOURCES / source)]
     ended = subprocess.run(words, capture_output=True, text=True, timeout=SECONDS, check=False)
     if ended.returncode:
-        raise unittest.SkipTest(f"`cc` can't build {SOURCE.name} (Debian: apt-get install gcc libc6-dev): {ended.stderr}")
-    log = os.path.join(folder.name, "log")
-    run("--version", env=environment(built, folder.name, log))
-    if not os.path.exists(log):
-        raise unittest.SkipTest("needs a program that loads libraries: this one seems to be linked statically")
-    return built
+        raise unittest.SkipTest(f"`cc` can't build {source} (Debian: apt-get install gcc libc6-dev): {ended.stderr}")
+    return library
 
 
-def environment(built, folder, log, faults=""):
+@functools.lru_cache(maxsize=None)
+def library():
+    """The path of the library that logs calls. Skips the test where the program doesn't load it."""
+    path = built("calls.c")
+    with tempfile.TemporaryDirectory() as folder:
+        log = os.path.join(folder, "log")
+        run("--version", env=environment(path, folder, log))
+        if not os.path.exists(log):
+            raise unittest.SkipTest("needs a program that loads libraries: this one seems to be linked statically")
+    return path
+
+
+def environment(path, folder, log, faults=""):
     """The environment for a run under the library, as its head says."""
-    return {**os.environ, "LD_PRELOAD": built, "CALLS_FOLDER": folder, "CALLS_LOG": log, "CALLS_FAULTS": faults}
+    return {**os.environ, "LD_PRELOAD": path, "CALLS_FOLDER": folder, "CALLS_LOG": log, "CALLS_FAULTS": faults}
 
 
 class Call(typing.NamedTuple):

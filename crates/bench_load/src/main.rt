@@ -7,6 +7,7 @@
 use bk_keydir::Loaded;
 use bk_load::recover;
 use bk_osdisk::OsDisk;
+use bk_progress::Silent;
 use std::io::{Eprint, ErrorKind, Input, Print, Read};
 use std::time::{Clock, Duration, Instant};
 use std::{env, io};
@@ -29,7 +30,7 @@ fn main(rt: HostRuntime) -> io::Result<()> {
 /// Recovers the folder.
 fn load(rt: HostRuntime, dir: &str) -> io::Result<Loaded> {
     let mut disk = OsDisk::new(rt, dir).map_err(|_| ErrorKind::InvalidInput)?;
-    recover(rt.alloc(), &mut disk).map_err(|_| ErrorKind::InvalidData.into())
+    recover(rt.alloc(), &mut disk, &mut Silent).map_err(|_| ErrorKind::InvalidData.into())
 }
 
 fn wait<R: Input>(rt: &R) -> io::Result<()> {

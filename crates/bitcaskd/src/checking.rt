@@ -10,11 +10,17 @@ use crate::run::Ended;
 use bk_base::Status;
 use bk_disk::{Disk, Sink};
 use bk_load::settings;
+use bk_progress::Progress;
 use bk_report::{ReportError, report_directory};
 use std::alloc::Global;
 
 /// Writes the report of a directory. The directory is recovered for that, and no store is started from it.
-pub fn check<D: Disk, K: Sink>(alloc: Global, mut disk: D, sink: &mut K) -> Ended<D>
+pub fn check<D: Disk, K: Sink, P: Progress>(
+    alloc: Global,
+    mut disk: D,
+    sink: &mut K,
+    progress: &mut P,
+) -> Ended<D>
     requires { IsTrue D.tells → NoneLent (D.told disk).fronts }
     ensures { (source clock : Bool) (whole : List ℕ) (taken : ℕ) (moments : List Moment)
         → Checks (telling D.tells source K.tells clock)
@@ -25,7 +31,7 @@ pub fn check<D: Disk, K: Sink>(alloc: Global, mut disk: D, sink: &mut K) -> Ende
 {
     match settings(alloc, &mut disk) {
         Ok(_) => {
-            let report = report_directory(alloc, &mut disk, sink);
+            let report = report_directory(alloc, &mut disk, sink, progress);
             Ended {
                 disk,
                 status: of_report(report),

@@ -13,16 +13,18 @@ use crate::run::Ended;
 use bk_base::Status;
 use bk_disk::{Clock, Disk, Sink};
 use bk_fill::{FillEnd, fill};
+use bk_progress::Progress;
 use bk_store::Store;
 use std::alloc::Global;
 
 /// Puts so many pairs into a store that was opened.
-pub fn fill_store<D: Disk, K: Sink, C: Clock>(
+pub fn fill_store<D: Disk, K: Sink, C: Clock, P: Progress>(
     alloc: Global,
     mut store: Store<D>,
     sink: &mut K,
     clock: &mut C,
     count: u32,
+    progress: &mut P,
 ) -> Ended<D>
     ensures ran { (was : Seen) (source : Bool) (whole : List ℕ) (taken : ℕ) → Opens D.tells was store
         → Fills count (telling D.tells source K.tells C.tells)
@@ -35,7 +37,7 @@ pub fn fill_store<D: Disk, K: Sink, C: Clock>(
     ensures disk { result.status ≡ Status.Disk → Rose store.files.faults (D.faults result.disk) }
     ensures sink { result.status ≡ Status.Sink → Rose (K.faults sink.old) (K.faults sink.new) }
 {
-    let end = fill(alloc, &mut store, sink, clock, count);
+    let end = fill(alloc, &mut store, sink, clock, count, progress);
     Ended {
         disk: store.close(),
         status: of_fill(end),

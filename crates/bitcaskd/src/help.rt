@@ -17,7 +17,8 @@ DIR is a folder that is there; what earlier runs put is kept. One process at a t
 bitcask.toml, where there is one, has the settings.
 
 'fill' puts each number from 0 to N - 1 under k and the number modulo 1000, and syncs. It prints
-FILLED, N, the keys of the store, and the bytes that it appended.
+FILLED, N, the keys of the store, and the bytes that it appended. A fill and an opening that take
+longer than a second show how far they have come on standard error, where that is a terminal.
 
 Requests. Numbers are decimal without leading zeros, and each line ends in a line feed.
   PUT k v    then k bytes of key (1 to 65535), v bytes of value (0 to 16777216) and a line feed.

@@ -11,13 +11,16 @@ mod help;
 mod listing;
 mod opening;
 mod piping;
+mod progress_line;
 mod run;
 #[cfg(test)]
 mod tests;
 
 use bk_base::{Memory, Status};
 use bk_osdisk::{OsClock, OsDisk, OsRefused, OsSink, OsSource};
+use bk_progress::Progress;
 use command::directory_of;
+use progress_line::ProgressLine;
 use run::{Ended, run};
 use std::env;
 use std::io::{ErrorKind, Print};
@@ -58,6 +61,7 @@ fn over_folder(rt: HostRuntime, words: &[String], dir: &str) -> ExitCode {
         Err(refused) => return refused_folder(rt, refused),
     };
     let (mut source, mut sink, mut clock) = (OsSource::new(rt), OsSink::new(rt), OsClock::new(rt));
+    let mut progress = ProgressLine::new(rt);
     let Ended { disk: _, status } = run(
         rt.alloc(),
         words,
@@ -65,7 +69,10 @@ fn over_folder(rt: HostRuntime, words: &[String], dir: &str) -> ExitCode {
         &mut source,
         &mut sink,
         &mut clock,
+        &mut progress,
     );
+    // An opening that failed is left here.
+    progress.finished();
     ended(rt, status)
 }
 

@@ -6,12 +6,17 @@ ghost use Rattle.bitcaskd.specs.Opening.{IsRefused, Opens, of_open, of_settings}
 use bk_base::Status;
 use bk_disk::Disk;
 use bk_load::{LoadSettings, OpenError, open, settings};
+use bk_progress::Progress;
 use bk_store::Store;
 use std::alloc::Global;
 
 /// Opens a directory, whatever a crash left of it. After a refusal the disk comes back, with the status
 /// of the run that ends so.
-pub fn open_store<D: Disk>(alloc: Global, mut disk: D) -> Result<Store<D>, (D, Status)>
+pub fn open_store<D: Disk, P: Progress>(
+    alloc: Global,
+    mut disk: D,
+    progress: &mut P,
+) -> Result<Store<D>, (D, Status)>
     requires { IsTrue D.tells → NoneLent (D.told disk).fronts }
     ensures opens { IfOk result (λ store. Opens D.tells
         (record { told = D.told disk; faults = D.faults disk; views = D.fallible_views disk; outs = D.fallible_outs disk })
@@ -25,7 +30,7 @@ pub fn open_store<D: Disk>(alloc: Global, mut disk: D) -> Result<Store<D>, (D, S
         Ok(settings) => settings,
         Err(error) => return Err((disk, of_settings(error))),
     };
-    match open(alloc, disk, settings) {
+    match open(alloc, disk, settings, progress) {
         Ok(store) => Ok(store),
         Err((disk, error)) => Err((disk, of_open(error))),
     }

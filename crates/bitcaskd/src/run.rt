@@ -18,6 +18,7 @@ use crate::opening::open_store;
 use crate::piping::pipe_store;
 use bk_base::Status;
 use bk_disk::{Clock, Disk, Sink, Source};
+use bk_progress::Progress;
 use bk_store::Store;
 use std::alloc::Global;
 
@@ -28,13 +29,14 @@ pub struct Ended<D> {
 }
 
 /// Opens the directory of a disk, and works on its store.
-fn over_disk<D: Disk, S: Source, K: Sink, C: Clock>(
+fn over_disk<D: Disk, S: Source, K: Sink, C: Clock, P: Progress>(
     alloc: Global,
     work: Work,
     disk: D,
     source: &mut S,
     sink: &mut K,
     clock: &mut C,
+    progress: &mut P,
 ) -> Ended<D>
     requires { IsTrue D.tells → NoneLent (D.told disk).fronts }
     ensures ran { let tells = telling D.tells S.tells K.tells C.tells in
@@ -51,20 +53,21 @@ fn over_disk<D: Disk, S: Source, K: Sink, C: Clock>(
         → Rose (S.faults source.old) (S.faults source.new) }
     ensures sink { result.status ≡ Status.Sink → Rose (K.faults sink.old) (K.faults sink.new) }
 {
-    match open_store(alloc, disk) {
-        Ok(store) => over_store(alloc, work, store, source, sink, clock),
+    match open_store(alloc, disk, progress) {
+        Ok(store) => over_store(alloc, work, store, source, sink, clock, progress),
         Err((disk, status)) => Ended { disk, status },
     }
 }
 
 /// Works on a store that was opened.
-fn over_store<D: Disk, S: Source, K: Sink, C: Clock>(
+fn over_store<D: Disk, S: Source, K: Sink, C: Clock, P: Progress>(
     alloc: Global,
     work: Work,
     store: Store<D>,
     source: &mut S,
     sink: &mut K,
     clock: &mut C,
+    progress: &mut P,
 ) -> Ended<D>
     requires { IsRested store }
     ensures ran { (was : Seen) → Opens D.tells was store → Works work (telling D.tells S.tells K.tells C.tells)
@@ -83,19 +86,20 @@ fn over_store<D: Disk, S: Source, K: Sink, C: Clock>(
     match work {
         Work::Pipe => pipe_store(alloc, store, source, sink, clock),
         Work::List => list_store(alloc, store, sink, clock),
-        Work::Fill(count) => fill_store(alloc, store, sink, clock, count),
+        Work::Fill(count) => fill_store(alloc, store, sink, clock, count, progress),
     }
 }
 
 /// Does what the words ask for, over a directory in any state that a crash may leave. The status says how it
 /// ended. A session and the sync behind it are one history of a map.
-pub fn run<D: Disk, S: Source, K: Sink, C: Clock>(
+pub fn run<D: Disk, S: Source, K: Sink, C: Clock, P: Progress>(
     alloc: Global,
     words: &[String],
     disk: D,
     source: &mut S,
     sink: &mut K,
     clock: &mut C,
+    progress: &mut P,
 ) -> Ended<D>
     requires { IsTrue D.tells → NoneLent (D.told disk).fronts }
 
@@ -124,8 +128,8 @@ pub fn run<D: Disk, S: Source, K: Sink, C: Clock>(
     ensures sink { result.status ≡ Status.Sink → Rose (K.faults sink.old) (K.faults sink.new) }
 {
     match command_of(words) {
-        Some(Command::Open(work)) => over_disk(alloc, work, disk, source, sink, clock),
-        Some(Command::Check) => check(alloc, disk, sink),
+        Some(Command::Open(work)) => over_disk(alloc, work, disk, source, sink, clock, progress),
+        Some(Command::Check) => check(alloc, disk, sink, progress),
         None => Ended {
             disk,
             status: Status::Words,

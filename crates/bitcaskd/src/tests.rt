@@ -7,6 +7,7 @@ use crate::run::{Ended, run};
 use bk_base::{Kind, Moment, Name, Status};
 use bk_load::synced_lends_nothing;
 use bk_memdisk::{Choice, ListClock, MemDisk, MemSink, MemSource};
+use bk_progress::Silent;
 use std::alloc::{AllocError, Global};
 use std::process::Abort;
 use std::test::Fail;
@@ -100,7 +101,15 @@ fn run_of(
 {
     let words = words_of(alloc, texts)?;
     let mut clock = at_five(alloc)?;
-    let Ended { disk, status } = run(alloc, &words, disk, &mut source, &mut sink, &mut clock);
+    let Ended { disk, status } = run(
+        alloc,
+        &words,
+        disk,
+        &mut source,
+        &mut sink,
+        &mut clock,
+        &mut Silent,
+    );
     let output = sink.bytes().to_vec(alloc)?;
     Ok(Left {
         status,

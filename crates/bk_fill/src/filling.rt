@@ -8,6 +8,7 @@ use crate::ends::FillEnd;
 use crate::lines::tell;
 use crate::putting::work;
 use bk_disk::{Clock, Disk, Sink};
+use bk_progress::Progress;
 use bk_store::Store;
 use std::alloc::Global;
 
@@ -16,12 +17,13 @@ use std::alloc::Global;
 /// the line then says what is full, and is left out where that isn't the cause.
 ///
 /// What the store holds may be known only where the disk tells.
-pub fn fill<D: Disk, K: Sink, C: Clock>(
+pub fn fill<D: Disk, K: Sink, C: Clock, P: Progress>(
     alloc: Global,
     store: &mut Store<D>,
     sink: &mut K,
     clock: &mut C,
     count: u32,
+    progress: &mut P,
 ) -> FillEnd
     ensures filled { (known : Bool) → (IsTrue known → IsTrue D.tells)
         → IsFilledFor known (telling K.tells C.tells) count
@@ -35,6 +37,6 @@ pub fn fill<D: Disk, K: Sink, C: Clock>(
     ensures sink { result ≡ FillEnd.Sink → Rose (K.faults sink.old) (K.faults sink.new) }
 {
     let now = clock.now();
-    let work = work(alloc, store, now, count);
+    let work = work(alloc, store, now, count, progress);
     tell(alloc, sink, count, work)
 }

@@ -12,12 +12,22 @@ use crate::work::Work;
 use bk_base::Moment;
 use bk_base::limits::RECORD_HEADER;
 use bk_disk::Disk;
+use bk_progress::{Progress, Stage};
 use bk_store::{Prepared, PutError, Store};
 use std::alloc::Global;
 
+/// After how many puts their number is told.
+const TOLD_EACH: u32 = 1_024;
+
 /// Puts the pairs with the numbers below `count`, all at one moment, and syncs them. What was put until a put was
 /// refused stays, and is synced too.
-pub(crate) fn work<D: Disk>(alloc: Global, store: &mut Store<D>, now: Moment, count: u32) -> Work
+pub(crate) fn work<D: Disk, P: Progress>(
+    alloc: Global,
+    store: &mut Store<D>,
+    now: Moment,
+    count: u32,
+    progress: &mut P,
+) -> Work
     ensures worked { (known : Bool) → (IsTrue known → IsTrue D.tells)
         → HasWorkedFor known now count result store.old store.new }
     ensures past { IsTrue D.tells → KeepsPast store.old.files.told store.new.files.told }
@@ -26,7 +36,8 @@ pub(crate) fn work<D: Disk>(alloc: Global, store: &mut Store<D>, now: Moment, co
     ensures disk { IsErrOf result.puts PutError.Disk → Rose store.old.files.faults store.new.files.faults }
     ensures sync { OnErr result.sync (Rose store.old.files.faults store.new.files.faults) }
 {
-    let puts = put_all(alloc, store, now, count);
+    let puts = put_all(alloc, store, now, count, progress);
+    progress.finished();
     let sync = store.sync();
     let keys = store.stat().keys;
     Work { puts, sync, keys }
@@ -34,11 +45,12 @@ pub(crate) fn work<D: Disk>(alloc: Global, store: &mut Store<D>, now: Moment, co
 
 /// Puts the pairs with the numbers below `count`, up to the first that is refused. It says how many bytes their
 /// records have.
-fn put_all<D: Disk>(
+fn put_all<D: Disk, P: Progress>(
     alloc: Global,
     store: &mut Store<D>,
     now: Moment,
     count: u32,
+    progress: &mut P,
 ) -> Result<u64, PutError>
     ensures puts { (known : Bool) → (IsTrue known → IsTrue D.tells)
         → HasPutFor known now count result store.old store.new }
@@ -49,9 +61,17 @@ fn put_all<D: Disk>(
 {
     let mut bytes: u64 = 0;
     for number in 0..count {
+        tell(progress, number, count);
         bytes += put_pair(alloc, store, number, now)?;
     }
     Ok(bytes)
+}
+
+/// Tells now and then how many pairs are put.
+fn tell<P: Progress>(progress: &mut P, done: u32, count: u32) {
+    if done % TOLD_EACH == 0 {
+        progress.reached(Stage::Filling, done.into(), count.into());
+    }
 }
 
 /// Puts the pair with this number, and says how many bytes its record has.

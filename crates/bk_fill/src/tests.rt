@@ -11,6 +11,7 @@ use bk_disk::Clock;
 use bk_keydir::{Keydir, Loaded, Report};
 use bk_memdisk::{ListClock, MemDisk, MemSink};
 use bk_policy::Settings;
+use bk_progress::Silent;
 use bk_store::Store;
 use std::alloc::Global;
 use std::process::Abort;
@@ -108,7 +109,7 @@ fn holds(rt: &impl Abort, alloc: Global, row: Row) -> bool {
     };
     let mut sink = MemSink::new(alloc, 1_000, fail).expect(rt, "memory");
     let mut clock = clock_of(rt, alloc);
-    let ended = fill(alloc, &mut store, &mut sink, &mut clock, count);
+    let ended = fill(alloc, &mut store, &mut sink, &mut clock, count, &mut Silent);
     ended == end && sink.bytes() == output.as_bytes() && clock.now() == Moment(6)
 }
 

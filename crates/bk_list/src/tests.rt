@@ -9,6 +9,7 @@ use bk_base::{Key, Kind, Moment, Name};
 use bk_load::{open, synced_lends_nothing};
 use bk_memdisk::{Choice, ListClock, MemDisk, MemSink};
 use bk_policy::Settings;
+use bk_progress::Silent;
 use bk_store::{Prepared, Store};
 use std::alloc::Global;
 use std::process::Abort;
@@ -140,7 +141,7 @@ fn opened(rt: &impl Abort, alloc: Global, begin: Begin) -> Store<MemDisk>
         ttl: 10,
         ..Settings::plain()
     };
-    match open(alloc, disk, settings) {
+    match open(alloc, disk, settings, &mut Silent) {
         Ok(store) => store,
         Err(_) => panic!(rt; "not opened"),
     }

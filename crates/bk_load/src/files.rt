@@ -25,6 +25,7 @@ use crate::scanning::scan_from;
 use bk_base::{FileId, Kind, Row, RowState};
 use bk_disk::Disk;
 use bk_hint::Verdict;
+use bk_progress::{Progress, Stage};
 use std::alloc::Global;
 
 /// What was found of a data file: its row without the counts, and what its hint is, where it has one.
@@ -35,10 +36,11 @@ pub(crate) struct FileFound {
 }
 
 /// Reads all data files, in order of id. No whole swap list stands.
-pub(crate) fn read_files<D: Disk>(
+pub(crate) fn read_files<D: Disk, P: Progress>(
     alloc: Global,
     disk: &mut D,
     learned: &mut Learned,
+    progress: &mut P,
 ) -> Result<Vec<FileFound>, OpenError>
     requires no_list { IsTrue D.tells → HasNoList (at (D.told disk.old).image) }
     requires none_lent { IsTrue D.tells → NoneLent (D.told disk.old).fronts }
@@ -70,7 +72,9 @@ pub(crate) fn read_files<D: Disk>(
         let file = FileId(main.id);
         let this = read_file(alloc, disk, learned, file, main.len, hint_size)?;
         found.push(this)?;
+        progress.reached(Stage::Opening, found.len() as u64, mains.len() as u64);
     }
+    progress.finished();
     Ok(found)
 }
 

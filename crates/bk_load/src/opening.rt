@@ -13,12 +13,18 @@ use crate::errors::OpenError;
 use crate::recovery::recover;
 use bk_disk::Disk;
 use bk_policy::Settings;
+use bk_progress::Progress;
 use bk_store::Store;
 use std::alloc::Global;
 
 /// The store of a directory, whatever a crash left of it. Where the directory is sound and synced, the
 /// store stands for the log that was there, and no step. After a refusal the disk comes back.
-pub fn open<D: Disk>(alloc: Global, disk: D, settings: Settings) -> Result<Store<D>, (D, OpenError)>
+pub fn open<D: Disk, P: Progress>(
+    alloc: Global,
+    disk: D,
+    settings: Settings,
+    progress: &mut P,
+) -> Result<Store<D>, (D, OpenError)>
     requires { IsTrue D.tells → NoneLent (D.told disk).fronts }
     ensures came { IfOk result (λ store. Came D.tells
         (record { told = D.told disk; faults = D.faults disk; views = D.fallible_views disk; outs = D.fallible_outs disk })
@@ -34,7 +40,7 @@ pub fn open<D: Disk>(alloc: Global, disk: D, settings: Settings) -> Result<Store
         (Err refused.1)) }
 {
     let mut disk = disk;
-    match recover(alloc, &mut disk) {
+    match recover(alloc, &mut disk, progress) {
         Ok(loaded) => Ok(Store::start(alloc, disk, loaded, settings)),
         Err(error) => Err((disk, error)),
     }

@@ -27,6 +27,7 @@ use crate::settling::settle_lists;
 use bk_base::{FileId, Name};
 use bk_disk::Disk;
 use bk_keydir::Loaded;
+use bk_progress::Progress;
 use std::alloc::Global;
 
 /// Recovers a directory, whatever a crash left of it: a merge that was committed is brought to its end,
@@ -37,7 +38,11 @@ use std::alloc::Global;
 ///
 /// Over every disk a store may start from what was loaded. Where the disk is sound and synced, it is so
 /// afterwards too, with the same log, and what was loaded is what that log says.
-pub fn recover<D: Disk>(alloc: Global, disk: &mut D) -> Result<Loaded, OpenError>
+pub fn recover<D: Disk, P: Progress>(
+    alloc: Global,
+    disk: &mut D,
+    progress: &mut P,
+) -> Result<Loaded, OpenError>
     requires { IsTrue D.tells → NoneLent (D.told disk.old).fronts }
     ensures course { Course D.tells
         (record { told = D.told disk.old; faults = D.faults disk.old; views = D.fallible_views disk.old; outs = D.fallible_outs disk.old })
@@ -63,7 +68,7 @@ pub fn recover<D: Disk>(alloc: Global, disk: &mut D) -> Result<Loaded, OpenError
     settle_lists(disk, &lists.whole)?;
     clear_unless_odd(alloc, disk, &lists.odd)?;
     let mut learned = Learned::new(alloc);
-    let files = read_files(alloc, disk, &mut learned)?;
+    let files = read_files(alloc, disk, &mut learned, progress)?;
     let last = FileId(greatest_id(&listed));
     assemble(alloc, learned, &files, lists.odd, last)
 }

@@ -9,6 +9,7 @@ use bk_crc::crc32;
 use bk_hint::Verdict;
 use bk_memdisk::{Choice, MemDisk};
 use bk_policy::{Settings, SettingsError};
+use bk_progress::Silent;
 use std::alloc::Global;
 use std::process::Abort;
 
@@ -190,7 +191,7 @@ fn recovered(
 ) -> (MemDisk, Result<Loaded, OpenError>) {
     let mut disk = crashed(rt, alloc, disk);
     choose(rt, &mut disk, call);
-    let result = recover(alloc, &mut disk);
+    let result = recover(alloc, &mut disk, &mut Silent);
     (disk, result)
 }
 

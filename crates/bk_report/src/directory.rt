@@ -12,6 +12,7 @@ use crate::report::write_report;
 use bk_disk::{Disk, Failed, Sink, write_all};
 use bk_keydir::Loaded;
 use bk_load::recover;
+use bk_progress::Progress;
 use std::alloc::Global;
 
 /// Recovers a directory, whatever a crash left of it, and writes its report. The same files count
@@ -19,10 +20,11 @@ use std::alloc::Global;
 ///
 /// `Disk` comes only where the disk's count of faults rose, `Read` only where that of the fallible views did, and
 /// `Sink` only where the sink's did; then a first part may have been written, and otherwise nothing was.
-pub fn report_directory<D: Disk, K: Sink>(
+pub fn report_directory<D: Disk, K: Sink, P: Progress>(
     alloc: Global,
     disk: &mut D,
     sink: &mut K,
+    progress: &mut P,
 ) -> Result<(), ReportError>
     requires { IsTrue D.tells → NoneLent (D.told disk.old).fronts }
     ensures came { Came D.tells
@@ -35,7 +37,7 @@ pub fn report_directory<D: Disk, K: Sink>(
     ensures later { K.faults sink.old ≤ K.faults sink.new }
     ensures sink { IsErrOf result ReportError.Sink → Rose (K.faults sink.old) (K.faults sink.new) }
 {
-    match recover(alloc, disk) {
+    match recover(alloc, disk, progress) {
         Ok(loaded) => {
             // The law of the keydir, that no key stands twice in it, comes with this call.
             let _keys = loaded.keydir.len();
