@@ -1,0 +1,4 @@
+pub mod Acting
+pub mod Writing
+pub mod Finding
+pub mod Folding

@@ -1,0 +1,7 @@
+pub mod Between
+pub mod Actions
+pub mod Lines
+pub mod Drills
+pub mod Loans
+pub mod Shown
+pub mod Progress

@@ -1,0 +1,96 @@
+-- What each line of a script does, and the lines that it prints.
+use Rattle.std.specs.Prelude.{◌≡◌, ℕ, ◌&&◌, Bool, true, IsTrue, List, [], ◌∷◌, ◌++◌, length, map, Option, None, Some}
+use Rattle.std.specs.List.{AllByRecursion}
+use Rattle.bk_base.specs.declared.histories.StoreSettings.{StoreSettings}
+use Rattle.bk_disk.specs.Crashes.{MayLeave}
+use Rattle.bk_disk.specs.Told.{Front, Image, Table, at}
+use Rattle.bk_exchange.specs.Answers.{map_size}
+use Rattle.bk_image.specs.Prefix.{HasPrefix, MeetsPrefix, Prefix}
+use Rattle.bk_image.specs.SoundDirectory.{IsSound}
+use Rattle.bk_keydir.specs.declared.loads.Loaded.{Loaded}
+use Rattle.bk_keydir.specs.declared.loads.Torn.{Torn}
+use Rattle.bk_laws.specs.Log.{last_seq}
+use Rattle.bk_load.specs.Loads.{IsLoadedFrom}
+use Rattle.bk_load.specs.Tidying.{Tidied}
+use Rattle.bk_memdisk.specs.Crash.{crashed}
+use Rattle.bk_script.specs.declared.lines.Line.{Line}
+use Rattle.bk_script.specs.declared.lines.Line.TheVariants.{Max, Ttl, At, Fail, Fuse, By, Stop}
+use Rattle.bk_script.specs.declared.printed.Printed.{Printed}
+use Rattle.bk_script.specs.declared.printed.Printed.TheVariants.{Memory, Reopened, Torn as torn_line}
+use Rattle.bk_store.specs.History.{kept_of}
+use Rattle.bk_drill.specs.Between.{Begins, Between, IsEmpty, log_at}
+use Rattle.bk_drill.specs.Actions.{Acts}
+
+-- A test of what a crash left of a disk. It says true only where no torn bytes are a record by chance.
+abbrev pub Test : Type 0
+Test = Table Front → Image → Bool
+
+-- ---- a stop
+
+-- What a crash found and left: of each file what it may lose, the files as they read, and as it left them.
+pub record Crash : Type 0 where
+  pub fronts : Table Front
+  pub before : Image
+  pub image : Image
+
+-- The crash left what the choice says, which is one of the images that it may leave.
+pub record IsCrash (keep : Option ℕ) (flips : List ℕ) (c : Crash) : Type 0 where
+  pub chosen : c.image ≡ crashed keep flips c.fronts c.before
+  pub allowed : MayLeave c.fronts c.image
+
+-- The disk that it found was that of the history: it had the map of the log, and each image that a crash may
+-- leave of it has that of a prefix with each synced write.
+pub record IsDiskOf (b : Between) (c : Crash) : Type 0 where
+  pub map_is : Prefix c.before (log_at b) (length (log_at b)) b.tried
+  pub crash : MeetsPrefix (log_at b) (kept_of b.opening b.steps) b.tried c.fronts
+
+-- The next history opens with the log that the image has, which has the map of such a prefix.
+pub record IsReopened (b later : Between) (c : Crash) : Type 0 where
+  pub sound : IsSound c.image later.opening.log
+  pub part : HasPrefix later.opening.log (kept_of b.opening b.steps) (log_at b ++ b.tried)
+
+-- the files behind whose whole records more bytes stand
+abbrev pub line_of_torn : Torn → Printed
+line_of_torn t = torn_line t.file t.at t.bytes
+
+-- The numbers are those of what recovery loaded of the image: the last seq, the keys, and the torn files.
+pub record Prints (later : Between) (c : Crash) (lines : List Printed) : Type 0 where
+  pub recovered : Image
+  pub tidied : Tidied (at c.image) (at recovered)
+  pub loaded : Loaded
+  pub is : IsLoadedFrom (at recovered) loaded
+  pub keys : ℕ
+  pub size : IsTrue later.sound → keys ≡ map_size later.opening.log
+  pub are : lines ≡ Reopened (record { 0 = last_seq later.opening.log }) keys (length loaded.report.torn.items)
+      ∷ map line_of_torn loaded.report.torn.items
+
+pub record Stops (test : Test) (b : Between) (keep : Option ℕ) (flips : List ℕ) (lines : List Printed) (later : Between)
+    : Type 0 where
+  pub crash : Crash
+  pub is : IsCrash keep flips crash
+  pub disk : IsTrue b.sound → IsDiskOf b crash
+  pub sound : later.sound ≡ (b.sound && test crash.fronts crash.image)
+  pub reopened : IsTrue later.sound → IsReopened b later crash
+  pub begins : Begins later
+  pub settings : later.opening.settings ≡ b.opening.settings
+  pub moment : later.moment ≡ b.moment
+  pub prints : Prints later crash lines
+
+-- ---- the whole
+
+-- a setting, which stands before all other lines
+abbrev pub Sets : StoreSettings → List Printed → Between → Type 0
+Sets settings lines later = (lines ≡ []) × IsEmpty settings later
+
+-- Which calls of the disk fail changes nothing that a reply depends on. There may be no memory to note it.
+abbrev pub Notes : Between → List Printed → Between → Type 0
+Notes b lines later = (later ≡ b) × AllByRecursion (λ (line : Printed). line ≡ Memory) lines
+
+abbrev pub LineIs : Test → Between → Line → List Printed → Between → Type 0
+LineIs test b (Max n) lines later = Sets (record b.opening.settings { max_file = n }) lines later
+LineIs test b (Ttl n) lines later = Sets (record b.opening.settings { ttl = n }) lines later
+LineIs test b (At now) lines later = (lines ≡ []) × (later ≡ record b { moment = now })
+LineIs test b (Fail nth effect) lines later = Notes b lines later
+LineIs test b (Fuse calls effect) lines later = (lines ≡ []) × (later ≡ b)
+LineIs test b (By actor action) lines later = (line : Printed) × (lines ≡ line ∷ []) × Acts b actor.0 action line later
+LineIs test b (Stop keep flips) lines later = Stops test b keep flips lines later

@@ -1,0 +1,44 @@
+//! A drill between two lines of its script.
+ghost use Rattle.std.specs.Prelude.{◌≤◌};
+ghost use Rattle.bk_drill.specs.Progress.{ActsAs};
+
+use crate::loans::Loans;
+use crate::tallies::Tallies;
+use bk_base::Moment;
+use bk_memdisk::MemDisk;
+use bk_policy::Settings;
+use bk_script::{Action, Actor, Printed};
+use bk_store::Store;
+use std::alloc::Global;
+
+/// A drill: its store, the moment, what the actors keep to be read, and how far their folds are.
+#[derive(Drop)]
+pub(crate) struct Drill {
+    pub(crate) alloc: Global,
+    pub(crate) store: Store<MemDisk>,
+    pub(crate) settings: Settings,
+    pub(crate) now: Moment,
+    pub(crate) loans: Loans,
+    pub(crate) tallies: Tallies,
+}
+
+impl Drill {
+    /// Does what an actor does, and gives the line that it prints.
+    pub(crate) fn act(&mut self, actor: Actor, action: Action) -> Printed
+        requires { actor.0 ≤ 26 }
+        ensures { ActsAs actor.0 action result self.old self.new }
+    {
+        match action {
+            Action::Put { key, value } => self.put(key, value),
+            Action::Big { key, len } => self.put_big(key, len),
+            Action::Delete(key) => self.delete(&key),
+            Action::Reap(key) => self.reap(&key),
+            Action::Get(key) => self.get(actor, &key),
+            Action::Read => self.read(actor),
+            Action::Sync => self.sync(),
+            Action::Fold => self.fold(actor),
+            Action::Next(slot) => self.next(actor, slot),
+            Action::End(slot) => self.end(actor, slot),
+        }
+    }
+}
