@@ -57,6 +57,7 @@ behind b step left kept = record {
   sound = b.sound;
   moment = b.moment;
   kept = kept;
+  plan = b.plan;
 }
 
 -- what the action did, and where the drill stands then
@@ -66,13 +67,13 @@ Result b who action line d = (later : Between) × Acts b who action line later �
 pub acts_once : (b : Between) (who : ℕ) (action : Action) (line : Printed) (step : Step) (left : List Write)
     (kept : ℕ → Option Kept) (d : Drill) → step.entry.caller ≡ who → Does b who action (step ∷ []) line
     → KeepsLoans who action (step ∷ []) line b.kept kept → Tries b action line left
-    → Follows b.sound d.store b.opening (b.steps ++ step ∷ []) left → b.moment ≡ d.now → d.store.settings ≡ d.settings
+    → Follows b.sound d.store b.opening (b.steps ++ step ∷ []) left → b.moment ≡ d.now → b.plan ≡ d.plan → d.store.settings ≡ d.settings
     → length d.store.keys.slots ≡ MOST_FOLDS
     → ((actor : ℕ) → LoanIs b.sound (loan_in d.loans actor) (kept actor))
     → ((slot : ℕ) → slot < MOST_FOLDS
     → tally_in d.tallies slot ≡ min (listed_by (state_after b.opening (b.steps ++ step ∷ [])).folds slot) last_count)
     → Result b who action line d
-acts_once b who action line step left kept d caller does keeps tries follows moment settings slots loans listed = (
+acts_once b who action line step left kept d caller does keeps tries follows moment plan settings slots loans listed = (
   behind b step left kept,
   record {
     steps = step ∷ [];
@@ -82,11 +83,12 @@ acts_once b who action line step left kept d caller does keeps tries follows mom
     opening = refl;
     sound = refl;
     moment = refl;
+    plan = refl;
     kept = keeps;
     tries = tries;
     legal = λ t. (follows.stands t).legal;
   },
-  record { follows = follows; moment = moment; settings = settings; slots = slots; loans = loans; listed = listed },
+  record { follows = follows; moment = moment; plan = plan; settings = settings; slots = slots; loans = loans; listed = listed },
 )
 
 -- the open folds after a step
@@ -118,18 +120,18 @@ follows_kept sound v u o h tried who call answer faults views f rises still same
 
 -- An event that changes neither the log nor the folds, nor what is kept.
 pub still_acts : (old new : Drill) (b : Between) (who : ℕ) (action : Action) (line : Printed) (call : Call) (answer : Answer)
-    (faults views : ℕ) → IsAt old b → new.now ≡ old.now → new.settings ≡ old.settings → ((n : ℕ) → loan_in new.loans n ≡ loan_in old.loans n)
+    (faults views : ℕ) → IsAt old b → new.now ≡ old.now → new.plan ≡ old.plan → new.settings ≡ old.settings → ((n : ℕ) → loan_in new.loans n ≡ loan_in old.loans n)
     → ((n : ℕ) → tally_in new.tallies n ≡ tally_in old.tallies n) → Rises old.store new.store faults views → Still old.store new.store
     → ((s : State) → changed who call answer s ≡ s) → Keeps true (entry_by who call answer) old.store new.store
     → Does b who action (step_of b.sound (entry_by who call answer) faults views new.store ∷ []) line
     → KeepsLoans who action (step_of b.sound (entry_by who call answer) faults views new.store ∷ []) line b.kept b.kept
     → is_numbered line ≡ false → Result b who action line new
-still_acts old new b who action line call answer faults views at now settings loans listed rises still same keeps does kept unwritten =
+still_acts old new b who action line call answer faults views at now plan settings loans listed rises still same keeps does kept unwritten =
     let e = entry_by who call answer in
     let step = step_of b.sound e faults views new.store in
     acts_once b who action line step b.tried b.kept new refl does kept (inr (inl (refl, unwritten)))
     (follows_kept b.sound old.store new.store b.opening b.steps b.tried who call answer faults views at.follows rises still same keeps)
-    (at.moment ∙ sym now) (still.kept.settings ∙ at.settings ∙ sym settings)
+    (at.moment ∙ sym now) (at.plan ∙ sym plan) (still.kept.settings ∙ at.settings ∙ sym settings)
     (ap (λ (l : List (Option Slot)). length l) still.slots ∙ at.slots)
     (λ n. subst (λ (l : Option Lent). LoanIs b.sound l (b.kept n)) (sym (loans n)) (at.loans n))
     (listed_still old b step e (tally_in new.tallies) at listed refl (ap (λ (s : State). s.folds) (same (state_at b))))

@@ -46,7 +46,7 @@ pub get_finds_none : (old new : Drill) (key : List ℕ) → GoesBy old new → L
     → (who : ℕ) (b : Between) → IsAt old b → Result b who (Get key) Absent new
 get_finds_none old new key by looks views keeps who b at =
     still_acts old new b who (Get key) Absent (get_call key old.now) Nothing
-    (new.store.files.faults - old.store.files.faults) 0 at by.now by.settings by.loans by.listed
+    (new.store.files.faults - old.store.files.faults) 0 at by.now by.plan by.settings by.loans by.listed
     (rises_by_faults old.store new.store looks.later views looks.outs) looks.still (λ s. refl) (keeps who)
     (inl (
       step_of b.sound (entry_by who (get_call key old.now) Nothing) (new.store.files.faults - old.store.files.faults) 0 new.store,
@@ -62,7 +62,7 @@ pub get_disk_fails : (old new : Drill) (key : List ℕ) → GoesBy old new → L
     → (who : ℕ) (b : Between) → IsAt old b → Result b who (Get key) Disk new
 get_disk_fails old new key by looks views rose keeps who b at =
     let r = rises_by_fault old.store new.store looks.later rose views looks.outs in
-    still_acts old new b who (Get key) Disk Quiet Done r.n 0 at by.now by.settings by.loans by.listed
+    still_acts old new b who (Get key) Disk Quiet Done r.n 0 at by.now by.plan by.settings by.loans by.listed
     r.rises looks.still (λ s. refl) (keeps who)
     (inr (record { call = λ is. absurd (cc is); quiet = (refl, refl, tt); cause = (refl, r.some) }))
     (λ actor. refl) refl
@@ -73,7 +73,7 @@ pub get_out_of_memory : (old new : Drill) (key : List ℕ) → GoesBy old new �
     → (who : ℕ) (b : Between) → IsAt old b → Result b who (Get key) Memory new
 get_out_of_memory old new key by looks views keeps who b at =
     still_acts old new b who (Get key) Memory Quiet Done (new.store.files.faults - old.store.files.faults) 0 at
-    by.now by.settings by.loans by.listed (rises_by_faults old.store new.store looks.later views looks.outs) looks.still (λ s. refl) (keeps who)
+    by.now by.plan by.settings by.loans by.listed (rises_by_faults old.store new.store looks.later views looks.outs) looks.still (λ s. refl) (keeps who)
     (inr (record { call = λ is. absurd (cc is); quiet = (refl, refl, tt); cause = tt }))
     (λ actor. refl) refl
 
@@ -115,7 +115,7 @@ loans_without sound who loans kept are n =
       | inr p ↦ rw p (are n)
     ]
 
-pub get_finds : (old new : Drill) (key : List ℕ) (who : ℕ) (l : Lent) → new.now ≡ old.now → new.settings ≡ old.settings
+pub get_finds : (old new : Drill) (key : List ℕ) (who : ℕ) (l : Lent) → new.now ≡ old.now → new.plan ≡ old.plan → new.settings ≡ old.settings
     → ((n : ℕ) → tally_in new.tallies n ≡ tally_in old.tallies n) → ((n : ℕ) → loan_in new.loans n ≡ cond (n == who) (Some l) (loan_in old.loans n))
     → Looks old new → new.store.files.fallible_views ≡ bumped l.fallible old.store.files.fallible_views
     → Keeps true (entry_by who (get_call key old.now) (Found (drop l.value_at l.left))) old.store new.store
@@ -123,7 +123,7 @@ pub get_finds : (old new : Drill) (key : List ℕ) (who : ℕ) (l : Lent) → ne
     → LendsWrite (winner (log_of o h) key) (Some l))
     → (b : Between) → IsAt old b → Result b who (Get key) Loan new
 unfolding kept_of_loan
-get_finds old new key who l now settings listed loans looks views keeps lends b at =
+get_finds old new key who l now plan settings listed loans looks views keeps lends b at =
     let r = rises_by_view l.fallible old.store new.store looks.later views looks.outs in
     let e = entry_by who (get_call key old.now) (Found (drop l.value_at l.left)) in
     let faults = new.store.files.faults - old.store.files.faults in
@@ -134,7 +134,7 @@ get_finds old new key who l now settings listed loans looks views keeps lends b 
     (inr (inl (refl, refl)))
     (follows_kept b.sound old.store new.store b.opening b.steps b.tried who (get_call key old.now)
     (Found (drop l.value_at l.left)) faults r.n at.follows r.rises looks.still (λ s. refl) keeps)
-    (at.moment ∙ sym now) (looks.still.kept.settings ∙ at.settings ∙ sym settings)
+    (at.moment ∙ sym now) (at.plan ∙ sym plan) (looks.still.kept.settings ∙ at.settings ∙ sym settings)
     (ap (λ (l : List (Option Slot)). length l) looks.still.slots ∙ at.slots)
     (λ n. subst (λ (x : Option Lent). LoanIs b.sound x (with_kept who (Some (kept_of_loan l)) b.kept n)) (sym (loans n))
     (loans_with b.sound who l (loan_in old.loans) b.kept
@@ -173,10 +173,10 @@ read_line_is b l k line is (inl (value, shown, bytes)) = inl (shown ∙ ap Value
 read_line_is b l k line is (inr why) = inr (unread_is b l k.fallible line is.fallible is.whole why)
 
 -- an action without a step
-acts_not : (old new : Drill) (b : Between) (who : ℕ) (line : Printed) → IsAt old b → new.store ≡ old.store → new.now ≡ old.now → new.settings ≡ old.settings
+acts_not : (old new : Drill) (b : Between) (who : ℕ) (line : Printed) → IsAt old b → new.store ≡ old.store → new.now ≡ old.now → new.plan ≡ old.plan → new.settings ≡ old.settings
     → ((n : ℕ) → tally_in new.tallies n ≡ tally_in old.tallies n) → ((n : ℕ) → loan_in new.loans n ≡ cond (n == who) None (loan_in old.loans n))
     → Reads b (b.kept who) line → Result b who read_action line new
-acts_not old new b who line at store now settings listed loans reads = (
+acts_not old new b who line at store now plan settings listed loans reads = (
   record b { kept = with_kept who None b.kept },
   record {
     steps = [];
@@ -186,6 +186,7 @@ acts_not old new b who line at store now settings listed loans reads = (
     opening = refl;
     sound = refl;
     moment = refl;
+    plan = refl;
     kept = λ actor. refl;
     tries = inr (inl (refl, unnumbered (b.kept who) reads));
     legal = λ t. (at.follows.stands t).legal;
@@ -193,6 +194,7 @@ acts_not old new b who line at store now settings listed loans reads = (
   record {
     follows = subst (λ (v : Shown). Follows b.sound v b.opening b.steps b.tried) (sym store) at.follows;
     moment = at.moment ∙ sym now;
+    plan = at.plan ∙ sym plan;
     settings = ap (λ (v : Shown). v.settings) store ∙ at.settings ∙ sym settings;
     slots = ap (λ (v : Shown). length v.keys.slots) store ∙ at.slots;
     loans = λ n. subst (λ (x : Option Lent). LoanIs b.sound x (with_kept who None b.kept n)) (sym (loans n))
@@ -206,22 +208,22 @@ acts_not old new b who line at store now settings listed loans reads = (
     unnumbered (Some k) (inl is) = ap is_numbered is
     unnumbered (Some k) (inr is) = unread_line b k.fallible line is
 
-pub read_finds_none : (old new : Drill) (who : ℕ) → new.store ≡ old.store → new.now ≡ old.now → new.settings ≡ old.settings
+pub read_finds_none : (old new : Drill) (who : ℕ) → new.store ≡ old.store → new.now ≡ old.now → new.plan ≡ old.plan → new.settings ≡ old.settings
     → ((n : ℕ) → tally_in new.tallies n ≡ tally_in old.tallies n) → ((n : ℕ) → loan_in new.loans n ≡ cond (n == who) None (loan_in old.loans n))
     → None ≡ loan_in old.loans who → (b : Between) → IsAt old b → Result b who read_action NoLoan new
-read_finds_none old new who store now settings listed loans none b at =
-    acts_not old new b who NoLoan at store now settings listed loans (go (loan_in old.loans who) (b.kept who) (sym none) (at.loans who))
+read_finds_none old new who store now plan settings listed loans none b at =
+    acts_not old new b who NoLoan at store now plan settings listed loans (go (loan_in old.loans who) (b.kept who) (sym none) (at.loans who))
   where
     go : (l : Option Lent) (k : Option Kept) → l ≡ None → LoanIs b.sound l k → Reads b k NoLoan
     go None None is h = refl
     go None (Some k) is h = absurd h
     go (Some l) k is h = absurd (cc is)
 
-pub read_gives : (old new : Drill) (who : ℕ) (l : Lent) (line : Printed) → new.store ≡ old.store → new.now ≡ old.now → new.settings ≡ old.settings
+pub read_gives : (old new : Drill) (who : ℕ) (l : Lent) (line : Printed) → new.store ≡ old.store → new.now ≡ old.now → new.plan ≡ old.plan → new.settings ≡ old.settings
     → ((n : ℕ) → tally_in new.tallies n ≡ tally_in old.tallies n) → ((n : ℕ) → loan_in new.loans n ≡ cond (n == who) None (loan_in old.loans n))
     → Some l ≡ loan_in old.loans who → ReadsLoan l line → (b : Between) → IsAt old b → Result b who read_action line new
-read_gives old new who l line store now settings listed loans some reads b at =
-    acts_not old new b who line at store now settings listed loans (go (loan_in old.loans who) (b.kept who) (sym some) (at.loans who))
+read_gives old new who l line store now plan settings listed loans some reads b at =
+    acts_not old new b who line at store now plan settings listed loans (go (loan_in old.loans who) (b.kept who) (sym some) (at.loans who))
   where
     go : (x : Option Lent) (k : Option Kept) → x ≡ Some l → LoanIs b.sound x k → Reads b k line
     go None k is h = absurd (cc is)

@@ -162,7 +162,7 @@ fold_opens old new who f by is keeps b at =
           (is_step_of b.sound e faults 0 v u t rises) refl;
       whole = at.follows.whole;
     })
-    (at.moment ∙ sym by.now) (kept.settings ∙ at.settings ∙ sym by.settings) (set_long v u f.slot (Some (opened who f.epoch old.now)) keys ∙ at.slots) (loans_kept old new b at by)
+    (at.moment ∙ sym by.now) (at.plan ∙ sym by.plan) (kept.settings ∙ at.settings ∙ sym by.settings) (set_long v u f.slot (Some (opened who f.epoch old.now)) keys ∙ at.slots) (loans_kept old new b at by)
     (λ slot low. by.listed slot ∙ at.listed slot low
     ∙ ap (λ (n : ℕ). min n last_count)
     (sym (listed_opened (record { listed = []; caller = who; epoch = f.epoch; now = old.now; slot = f.slot })
@@ -184,7 +184,7 @@ pub folds_are_full : (old new : Drill) (who : ℕ) → GoesBy old new → new.st
     → (b : Between) → IsAt old b → Result b who fold_action (Full Folds) new
 folds_are_full old new who by same all keeps b at =
     still_acts old new b who fold_action (Full Folds) Quiet Done (new.store.files.faults - old.store.files.faults) 0 at
-    by.now by.settings by.loans by.listed (files_same old.store new.store (ap (λ (y : Shown). y.files) same))
+    by.now by.plan by.settings by.loans by.listed (files_same old.store new.store (ap (λ (y : Shown). y.files) same))
     (same_still old.store new.store same) (λ s. refl) keeps
     (inr (record {
       call = λ is. absurd (cc is);
@@ -256,7 +256,7 @@ pub has_no_fold : (old new : Drill) (action : Action) (who slot : ℕ) → AsksF
     → (b : Between) → IsAt old b → Result b who action (NoFold slot) new
 has_no_fold old new action who slot asks by same other keeps b at =
     let faults = new.store.files.faults - old.store.files.faults in
-    still_acts old new b who action (NoFold slot) Quiet Done faults 0 at by.now by.settings by.loans by.listed
+    still_acts old new b who action (NoFold slot) Quiet Done faults 0 at by.now by.plan by.settings by.loans by.listed
     (files_same old.store new.store (ap (λ (y : Shown). y.files) same)) (same_still old.store new.store same) (λ s. refl) keeps
     (asks.refused b who (step_of b.sound (quiet_by who) faults 0 new.store) (NoFold slot) (refl, refl, tt)
     (asks.none b who (no_own_fold old b who slot at other)))
@@ -273,7 +273,7 @@ fold_ends old new who slot n by same owner is keeps b at =
     let low : slot < MOST_FOLDS = omega (arith, low_slot old.store.keys.slots slot s there, at.slots) in
     let faults = new.store.files.faults - old.store.files.faults in
     let e = entry_by who (FoldNext slot) end_answer in
-    still_acts old new b who (Next slot) (end_line n) (FoldNext slot) end_answer faults 0 at by.now by.settings by.loans by.listed
+    still_acts old new b who (Next slot) (end_line n) (FoldNext slot) end_answer faults 0 at by.now by.plan by.settings by.loans by.listed
     (files_same old.store new.store (ap (λ (y : Shown). y.files) same)) (same_still old.store new.store same) (λ s. refl) keeps
     (inl (
       step_of b.sound e faults 0 new.store,
@@ -290,7 +290,7 @@ pub next_disk_fails : (old new : Drill) (who slot : ℕ) → GoesBy old new
     → (b : Between) → IsAt old b → Result b who (Next slot) Disk new
 next_disk_fails old new who slot by same catalog later rose views outs keeps b at =
     let r = rises_by_fault old.store new.store later rose views outs in
-    still_acts old new b who (Next slot) Disk Quiet Done r.n 0 at by.now by.settings by.loans by.listed r.rises
+    still_acts old new b who (Next slot) Disk Quiet Done r.n 0 at by.now by.plan by.settings by.loans by.listed r.rises
     (still_files old.store new.store same catalog) (λ s. refl) keeps
     (inr (record { call = λ is. absurd (cc is); quiet = (refl, refl, tt); cause = (refl, r.some) })) (λ actor. refl) refl
 
@@ -302,7 +302,7 @@ pub next_out_of_memory : (old new : Drill) (who slot : ℕ) → GoesBy old new
     → (b : Between) → IsAt old b → Result b who (Next slot) Memory new
 next_out_of_memory old new who slot by same catalog later views outs keeps b at =
     still_acts old new b who (Next slot) Memory Quiet Done (new.store.files.faults - old.store.files.faults) 0 at
-    by.now by.settings by.loans by.listed (rises_by_faults old.store new.store later views outs)
+    by.now by.plan by.settings by.loans by.listed (rises_by_faults old.store new.store later views outs)
     (still_files old.store new.store same catalog) (λ s. refl) keeps
     (inr (record { call = λ is. absurd (cc is); quiet = (refl, refl, tt); cause = tt })) (λ actor. refl) refl
 
@@ -394,12 +394,12 @@ shows_line key l line (inr why) = absurd why
 open_some : (o : Option Slot) (s : Slot) → o ≡ Some s → is_some o ≡ true
 open_some o s is = ap (λ (x : Option Slot). is_some x) is
 
-pub fold_gives : (old new : Drill) (who slot : ℕ) (key : List ℕ) (l : Lent) (line : Printed) → new.now ≡ old.now → new.settings ≡ old.settings
+pub fold_gives : (old new : Drill) (who slot : ℕ) (key : List ℕ) (l : Lent) (line : Printed) → new.now ≡ old.now → new.plan ≡ old.plan → new.settings ≡ old.settings
     → ((n : ℕ) → loan_in new.loans n ≡ loan_in old.loans n)
     → ((n : ℕ) → tally_in new.tallies n ≡ cond (n == slot) (min (tally_in old.tallies n + 1) last_count) (tally_in old.tallies n))
     → GivesPair who slot key l old.store new.store → ShowsPair key l line
     → (b : Between) → IsAt old b → Result b who (Next slot) line new
-fold_gives old new who slot key l line now settings loans listed g shows b at =
+fold_gives old new who slot key l line now plan settings loans listed g shows b at =
     let within : slot < MOST_FOLDS = omega (arith, low_slot old.store.keys.slots slot g.s g.there, at.slots) in
     let v = old.store in
     let u = new.store in
@@ -425,7 +425,7 @@ fold_gives old new who slot key l line now settings loans listed g shows b at =
           (is_step_of b.sound e faults r.n v u t r.rises) refl;
       whole = at.follows.whole;
     })
-    (at.moment ∙ sym now) (g.kept.settings ∙ at.settings ∙ sym settings) (set_long v u slot (Some g.x) g.slots ∙ at.slots)
+    (at.moment ∙ sym now) (at.plan ∙ sym plan) (g.kept.settings ∙ at.settings ∙ sym settings) (set_long v u slot (Some g.x) g.slots ∙ at.slots)
     (λ n. subst (λ (x : Option Lent). LoanIs b.sound x (b.kept n)) (sym (loans n)) (at.loans n))
     (λ n low. listed n ∙ more folds is_there n (tally_in old.tallies n) (at.listed n low)
     ∙ ap (λ (k : ℕ). min k last_count) (folds_after o h step e n refl))
@@ -466,12 +466,12 @@ fold_gives old new who slot key l line now settings loans listed g shows b at =
 
 -- ---- it is closed
 
-pub fold_closes : (old new : Drill) (who slot : ℕ) → new.now ≡ old.now → new.settings ≡ old.settings
+pub fold_closes : (old new : Drill) (who slot : ℕ) → new.now ≡ old.now → new.plan ≡ old.plan → new.settings ≡ old.settings
     → ((n : ℕ) → loan_in new.loans n ≡ loan_in old.loans n)
     → ((n : ℕ) → tally_in new.tallies n ≡ cond (n == slot) 0 (tally_in old.tallies n)) → IsClosed slot old.store new.store
     → who_of (slot_at old.store.keys.slots slot) ≡ Some who → Keeps true (entry_by who (FoldClose slot) Done) old.store new.store
     → (b : Between) → IsAt old b → Result b who (End slot) Closed new
-fold_closes old new who slot now settings loans listed is owner keeps b at =
+fold_closes old new who slot now plan settings loans listed is owner keeps b at =
     let v = old.store in
     let u = new.store in
     let o = b.opening in
@@ -497,7 +497,7 @@ fold_closes old new who slot now settings loans listed is owner keeps b at =
           (is_step_of b.sound e faults 0 v u t rises) refl;
       whole = at.follows.whole;
     })
-    (at.moment ∙ sym now) (kept.settings ∙ at.settings ∙ sym settings) (set_long v u slot None slots ∙ at.slots)
+    (at.moment ∙ sym now) (at.plan ∙ sym plan) (kept.settings ∙ at.settings ∙ sym settings) (set_long v u slot None slots ∙ at.slots)
     (λ n. subst (λ (x : Option Lent). LoanIs b.sound x (b.kept n)) (sym (loans n)) (at.loans n))
     (λ n low. listed n ∙ less (state_at b).folds n (tally_in old.tallies n) (at.listed n low)
     ∙ ap (λ (k : ℕ). min k last_count) (folds_after o h step e n refl))

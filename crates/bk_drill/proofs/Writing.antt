@@ -60,6 +60,7 @@ use Rattle.bk_drill.proofs.Acting.{Result, acts_once, goes_in, listed_still, ref
 -- the drill went on, and but for its store is as it was
 pub record GoesBy (old new : Drill) : Type 0 where
   pub now : new.now ≡ old.now
+  pub plan : new.plan ≡ old.plan
   pub settings : new.settings ≡ old.settings
   pub loans : (n : ℕ) → loan_in new.loans n ≡ loan_in old.loans n
   pub listed : (n : ℕ) → tally_in new.tallies n ≡ tally_in old.tallies n
@@ -89,7 +90,7 @@ wrote_acts old new b who action call seq w at by rest writes next seq_next goes 
     (writes (state_at b)) next (settings_kept v u rest) seq_next rest.slots
     (λ t. goes_in b.sound e v u goes t b.opening b.steps b.tried step (at.follows.stands t)
     (is_step_of b.sound e n 0 v u t rises) refl))
-    (at.moment ∙ sym by.now) (rest.settings ∙ at.settings ∙ sym by.settings) (ap (λ (l : List (Option Slot)). length l) rest.slots ∙ at.slots) (loans_kept old new b at by)
+    (at.moment ∙ sym by.now) (at.plan ∙ sym by.plan) (rest.settings ∙ at.settings ∙ sym by.settings) (ap (λ (l : List (Option Slot)). length l) rest.slots ∙ at.slots) (loans_kept old new b at by)
     (listed_still old b step e (tally_in new.tallies) at by.listed refl (ap (λ (s : State). s.folds) (writes (state_at b))))
 
 -- ---- a write that was refused
@@ -189,7 +190,7 @@ refused_acts old new b who action w e at by rest error refuses size writing disk
     (tries_by b action w e l.left asked l.is_left)
     (follows_still b.sound v u b.opening b.steps b.tried l.left step q at.follows (counts_of b.sound q r.n 0 v u r.rises) refl refl
     (settings_kept v u rest) (seq_kept w v u e error) rest.slots l.stands)
-    (at.moment ∙ sym by.now) (rest.settings ∙ at.settings ∙ sym by.settings) (ap (λ (l : List (Option Slot)). length l) rest.slots ∙ at.slots) (loans_kept old new b at by)
+    (at.moment ∙ sym by.now) (at.plan ∙ sym by.plan) (rest.settings ∙ at.settings ∙ sym by.settings) (ap (λ (l : List (Option Slot)). length l) rest.slots ∙ at.slots) (loans_kept old new b at by)
     (listed_still old b step q (tally_in new.tallies) at by.listed refl refl)
 
 -- ---- put
@@ -350,7 +351,7 @@ module _ (old new : Drill) (action : Action) (key : List ℕ) (call : Moment →
       (subst (IsBuried due (next_write old.store old.now key Gone) old.store new.store) is buried) in
       let faults = new.store.files.faults - old.store.files.faults in
       let step = step_of b.sound (entry_by who (call old.now) Nothing) faults 0 new.store in
-      still_acts old new b who action Absent (call old.now) Nothing faults 0 at by.now by.settings by.loans by.listed
+      still_acts old new b who action Absent (call old.now) Nothing faults 0 at by.now by.plan by.settings by.loans by.listed
       (rises_by_faults old.store new.store rest.later rest.views rest.outs)
       (record { kept = settings_kept old.store new.store rest; seq = ap (λ (x : Shown). x.seq) same; slots = rest.slots })
       (λ s. buries.still who old.now s)
@@ -392,7 +393,7 @@ module _ (old new : Drill) (by : GoesBy old new) (rest : KeepsRest old.store new
       (settings_kept v u rest) (ap (λ (x : Shown). x.seq) same) rest.slots
       (λ t. goes_in b.sound e v u (goes who) t b.opening b.steps b.tried step (at.follows.stands t)
       (is_step_of b.sound e n 0 v u t rises) refl))
-      (at.moment ∙ sym by.now) (rest.settings ∙ at.settings ∙ sym by.settings)
+      (at.moment ∙ sym by.now) (at.plan ∙ sym by.plan) (rest.settings ∙ at.settings ∙ sym by.settings)
       (ap (λ (l : List (Option Slot)). length l) rest.slots ∙ at.slots) (loans_kept old new b at by)
       (listed_still old b step e (tally_in new.tallies) at by.listed refl refl)
 
@@ -416,7 +417,7 @@ module _ (old new : Drill) (by : GoesBy old new) (rest : KeepsRest old.store new
       (sync_tries b l.left l.is_left)
       (follows_still b.sound v u b.opening b.steps b.tried l.left step q at.follows (counts_of b.sound q r.n 0 v u r.rises) refl refl
       (settings_kept v u rest) (ap (λ (x : Shown). x.seq) same) rest.slots l.stands)
-      (at.moment ∙ sym by.now) (rest.settings ∙ at.settings ∙ sym by.settings)
+      (at.moment ∙ sym by.now) (at.plan ∙ sym by.plan) (rest.settings ∙ at.settings ∙ sym by.settings)
       (ap (λ (l : List (Option Slot)). length l) rest.slots ∙ at.slots) (loans_kept old new b at by)
       (listed_still old b step q (tally_in new.tallies) at by.listed refl refl)
 
@@ -436,6 +437,7 @@ no_memory d action does kept who b at = (
     opening = refl;
     sound = refl;
     moment = refl;
+    plan = refl;
     kept = kept b who;
     tries = inr (inl (refl, refl));
     legal = λ t. (at.follows.stands t).legal;

@@ -202,7 +202,7 @@ Tries b action line left =
     (left ≡ []) ⊎ (((left ≡ b.tried) × (is_numbered line ≡ false))
     ⊎ ((line ≡ Disk) × (left ≡ write_asked b action)))
 
--- An action of this actor printed this line.
+-- An action of this actor printed this line. Which calls of the disk fail stands beside it.
 pub record Acts (b : Between) (who : ℕ) (action : Action) (line : Printed) (later : Between) : Type 0 where
   pub steps : List Step
   pub own : IsAlone who steps
@@ -211,6 +211,7 @@ pub record Acts (b : Between) (who : ℕ) (action : Action) (line : Printed) (la
   pub opening : later.opening ≡ b.opening
   pub sound : later.sound ≡ b.sound
   pub moment : later.moment ≡ b.moment
+  pub plan : later.plan ≡ b.plan
   pub kept : Keeps who action steps line b.kept later.kept
   pub tries : Tries b action line later.tried
   pub legal : IsTrue b.sound → IsLegalHistory later.opening later.steps

@@ -1,6 +1,5 @@
 -- What each line of a script does, and the lines that it prints.
-use Rattle.std.specs.Prelude.{◌≡◌, ℕ, ◌&&◌, Bool, true, IsTrue, List, [], ◌∷◌, ◌++◌, length, map, Option, None, Some}
-use Rattle.std.specs.List.{AllByRecursion}
+use Rattle.std.specs.Prelude.{◌≡◌, ◌≢◌, ◌⊎◌, ℕ, ◌<◌, ◌≤◌, ◌&&◌, Bool, true, IsTrue, IsSome, List, [], ◌∷◌, ◌++◌, length, map, Option, None, Some}
 use Rattle.bk_base.specs.declared.histories.StoreSettings.{StoreSettings}
 use Rattle.bk_disk.specs.Crashes.{MayLeave}
 use Rattle.bk_disk.specs.Told.{Front, Image, Table, at}
@@ -13,12 +12,14 @@ use Rattle.bk_laws.specs.Log.{last_seq}
 use Rattle.bk_load.specs.Loads.{IsLoadedFrom}
 use Rattle.bk_load.specs.Tidying.{Tidied}
 use Rattle.bk_memdisk.specs.Crash.{crashed}
+use Rattle.bk_memdisk.specs.Plans.{Planned, chosen, counted_to, effect_at, fused}
+use Rattle.bk_script.specs.declared.lines.Action.{Action}
 use Rattle.bk_script.specs.declared.lines.Line.{Line}
 use Rattle.bk_script.specs.declared.lines.Line.TheVariants.{Max, Ttl, At, Fail, Fuse, By, Stop}
 use Rattle.bk_script.specs.declared.printed.Printed.{Printed}
-use Rattle.bk_script.specs.declared.printed.Printed.TheVariants.{Memory, Reopened, Torn as torn_line}
+use Rattle.bk_script.specs.declared.printed.Printed.TheVariants.{Disk, Memory, Read, Reopened, Torn as torn_line}
 use Rattle.bk_store.specs.History.{kept_of}
-use Rattle.bk_drill.specs.Between.{Begins, Between, IsEmpty, log_at}
+use Rattle.bk_drill.specs.Between.{Begins, Between, IsEmpty, log_at, with_plan}
 use Rattle.bk_drill.specs.Actions.{Acts}
 
 -- A test of what a crash left of a disk. It says true only where no torn bytes are a record by chance.
@@ -76,21 +77,40 @@ pub record Stops (test : Test) (b : Between) (keep : Option ℕ) (flips : List �
   pub moment : later.moment ≡ b.moment
   pub prints : Prints later crash lines
 
+-- ---- an action
+
+-- Of the calls of the disk that are made up to this number, one is chosen to fail.
+abbrev pub MeetsChosen : Planned → ℕ → Type 0
+MeetsChosen plan calls = (call : ℕ) × (plan.calls < call) × (call ≤ calls) × IsSome (effect_at call plan)
+
+-- An action printed this line, and calls of the disk were made up to this number. DISK is printed only where one of
+-- them was chosen to fail, and READ never: a view that was opened doesn't fail.
+pub record ActsOnDisk (b : Between) (who : ℕ) (action : Action) (line : Printed) (later : Between) : Type 0 where
+  pub acted : Between
+  pub acts : Acts b who action line acted
+  pub calls : ℕ
+  pub made : b.plan.calls ≤ calls
+  pub counted : later ≡ with_plan (counted_to calls b.plan) acted
+  pub refused : line ≡ Disk → MeetsChosen b.plan calls
+  pub not_read : line ≢ Read
+
 -- ---- the whole
 
 -- a setting, which stands before all other lines
 abbrev pub Sets : StoreSettings → List Printed → Between → Type 0
 Sets settings lines later = (lines ≡ []) × IsEmpty settings later
 
--- Which calls of the disk fail changes nothing that a reply depends on. There may be no memory to note it.
-abbrev pub Notes : Between → List Printed → Between → Type 0
-Notes b lines later = (later ≡ b) × AllByRecursion (λ (line : Printed). line ≡ Memory) lines
+-- The call is chosen. Where there is no memory to note it, that is printed, and it is chosen or not.
+abbrev pub Chooses : Between → Planned → List Printed → Between → Type 0
+Chooses b plan lines later =
+    ((lines ≡ []) × (later ≡ with_plan plan b))
+    ⊎ ((lines ≡ Memory ∷ []) × ((later ≡ b) ⊎ (later ≡ with_plan plan b)))
 
 abbrev pub LineIs : Test → Between → Line → List Printed → Between → Type 0
 LineIs test b (Max n) lines later = Sets (record b.opening.settings { max_file = n }) lines later
 LineIs test b (Ttl n) lines later = Sets (record b.opening.settings { ttl = n }) lines later
 LineIs test b (At now) lines later = (lines ≡ []) × (later ≡ record b { moment = now })
-LineIs test b (Fail nth effect) lines later = Notes b lines later
-LineIs test b (Fuse calls effect) lines later = (lines ≡ []) × (later ≡ b)
-LineIs test b (By actor action) lines later = (line : Printed) × (lines ≡ line ∷ []) × Acts b actor.0 action line later
+LineIs test b (Fail nth effect) lines later = Chooses b (chosen nth effect b.plan) lines later
+LineIs test b (Fuse calls effect) lines later = (lines ≡ []) × (later ≡ with_plan (fused calls effect b.plan) b)
+LineIs test b (By actor action) lines later = (line : Printed) × (lines ≡ line ∷ []) × ActsOnDisk b actor.0 action line later
 LineIs test b (Stop keep flips) lines later = Stops test b keep flips lines later

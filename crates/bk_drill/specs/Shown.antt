@@ -26,6 +26,7 @@ LoanIs sound (Some l) (Some k) = IsLoanOf sound l k
 pub record IsAt (d : Drill) (b : Between) : Type 0 where
   pub follows : Follows b.sound d.store b.opening b.steps b.tried
   pub moment : b.moment ≡ d.now
+  pub plan : b.plan ≡ d.plan
   pub settings : d.store.settings ≡ d.settings
   pub slots : length d.store.keys.slots ≡ MOST_FOLDS
   pub loans : (actor : ℕ) → LoanIs b.sound (loan_in d.loans actor) (b.kept actor)

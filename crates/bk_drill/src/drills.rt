@@ -5,13 +5,14 @@ ghost use Rattle.bk_drill.specs.Progress.{ActsAs};
 use crate::loans::Loans;
 use crate::tallies::Tallies;
 use bk_base::Moment;
-use bk_memdisk::MemDisk;
+use bk_memdisk::{MemDisk, Plan};
 use bk_policy::Settings;
 use bk_script::{Action, Actor, Printed};
 use bk_store::Store;
 use std::alloc::Global;
 
-/// A drill: its store, the moment, what the actors keep to be read, and how far their folds are.
+/// A drill: its store, the moment, what the actors keep to be read, how far their folds are, and which calls of the
+/// disk were chosen to fail.
 #[derive(Drop)]
 pub(crate) struct Drill {
     pub(crate) alloc: Global,
@@ -20,6 +21,9 @@ pub(crate) struct Drill {
     pub(crate) now: Moment,
     pub(crate) loans: Loans,
     pub(crate) tallies: Tallies,
+    /// The calls of the disk that were made, and those that were chosen to fail. The store's answers don't say which
+    /// call of its disk failed, so the drill notes them too.
+    pub(crate) plan: Plan,
 }
 
 impl Drill {

@@ -21,7 +21,7 @@ keep-requires c = record {
 pub returns-in-Ok-Some : goal.returns-in-Ok-Some
 returns-in-Ok-Some c =
     let is : c.in-Ok-Some.field-0 ≡ Some c.in-Ok-Some.loan = cc in
-    get_finds c.args.self.now _ c.args.key.now c.args.actor.0 c.in-Ok-Some.loan refl refl (λ n. refl) c.keep.ensures
+    get_finds c.args.self.now _ c.args.key.now c.args.actor.0 c.in-Ok-Some.loan refl refl refl (λ n. refl) c.keep.ensures
     (record {
       still = still_files c.args.self.now.store c.locate.new.self c.locate.ensures.same c.locate.ensures.catalog;
       later = c.locate.ensures.later;
@@ -37,7 +37,7 @@ returns-in-Ok-Some c =
 pub returns-in-Ok-None : goal.returns-in-Ok-None
 returns-in-Ok-None c =
     let is : c.in-Ok-None.field-0 ≡ None = cc in
-    get_finds_none c.args.self.now _ c.args.key.now (record { now = refl; settings = refl; loans = λ n. refl; listed = λ n. refl })
+    get_finds_none c.args.self.now _ c.args.key.now (record { now = refl; plan = refl; settings = refl; loans = λ n. refl; listed = λ n. refl })
     (record {
       still = still_files c.args.self.now.store c.locate.new.self c.locate.ensures.same c.locate.ensures.catalog;
       later = c.locate.ensures.later;
@@ -51,7 +51,7 @@ returns-in-Ok-None c =
 
 pub returns-in-Err-Disk : goal.returns-in-Err-Disk
 returns-in-Err-Disk c =
-    get_disk_fails c.args.self.now _ c.args.key.now (record { now = refl; settings = refl; loans = λ n. refl; listed = λ n. refl })
+    get_disk_fails c.args.self.now _ c.args.key.now (record { now = refl; plan = refl; settings = refl; loans = λ n. refl; listed = λ n. refl })
     (record {
       still = still_files c.args.self.now.store c.locate.new.self c.locate.ensures.same c.locate.ensures.catalog;
       later = c.locate.ensures.later;
@@ -61,7 +61,7 @@ returns-in-Err-Disk c =
 
 pub returns-in-Err-Memory : goal.returns-in-Err-Memory
 returns-in-Err-Memory c =
-    get_out_of_memory c.args.self.now _ c.args.key.now (record { now = refl; settings = refl; loans = λ n. refl; listed = λ n. refl })
+    get_out_of_memory c.args.self.now _ c.args.key.now (record { now = refl; plan = refl; settings = refl; loans = λ n. refl; listed = λ n. refl })
     (record {
       still = still_files c.args.self.now.store c.locate.new.self c.locate.ensures.same c.locate.ensures.catalog;
       later = c.locate.ensures.later;

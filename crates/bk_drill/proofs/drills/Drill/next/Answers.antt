@@ -20,7 +20,7 @@ pair_line-requires c =
 pub returns-in-Ok-Some : goal.returns-in-Ok-Some
 returns-in-Ok-Some c =
     fold_gives c.args.self.now _ c.args.actor.0 c.args.slot c.in-Ok-Some.row.key c.in-Ok-Some.row.loan
-    c.pair_line.result refl refl (λ n. refl) c.add.ensures
+    c.pair_line.result refl refl refl (λ n. refl) c.add.ensures
     (gives_pair_of c.args.actor.0 c.args.slot c.args.self.now.store c.fold_next.new.self c.in-Ok-Some.field-0
     c.in-Ok-Some.row c.in-Ok-Some.field-0-is c.in-Ok-Some.ensures.lent c.fold_next.ensures.later c.in-Ok-Some.ensures.views
     c.fold_next.ensures.outs (c.in-Ok-Some.ensures.ok refl) (c.in-Ok-Some.ensures.winner refl))
@@ -29,7 +29,7 @@ returns-in-Ok-Some c =
 pub returns-in-Ok-None : goal.returns-in-Ok-None
 returns-in-Ok-None c =
     let is : c.in-Ok-None.field-0 ≡ None = cc in
-    fold_ends c.args.self.now _ c.args.actor.0 c.args.slot c.of.result (record { now = refl; settings = refl; loans = λ n. refl; listed = λ n. refl })
+    fold_ends c.args.self.now _ c.args.actor.0 c.args.slot c.of.result (record { now = refl; plan = refl; settings = refl; loans = λ n. refl; listed = λ n. refl })
     (end_same c.args.actor.0 c.args.slot c.args.self.now.store c.fold_next.new.self c.in-Ok-None.field-0 is c.in-Ok-None.ensures.lent)
     c.in-Ok-None.ensures.lent.0 c.of.ensures
     (subst (λ x. Keeps true (entry_by c.args.actor.0 (FoldNext c.args.slot) (next_reply x)) c.args.self.now.store c.fold_next.new.self)
@@ -43,7 +43,7 @@ returns-in-Err-NoFold c = λ b at.
     c.in-Err-NoFold.ensures.error in
     subst (λ (n : ℕ). Result b c.args.actor.0 (Next c.args.slot) (NoFold n) new) (sym why.0)
     (has_no_fold c.args.self.now new (Next c.args.slot) c.args.actor.0 c.args.slot (asks_next c.args.slot)
-    (record { now = refl; settings = refl; loans = λ n. refl; listed = λ n. refl })
+    (record { now = refl; plan = refl; settings = refl; loans = λ n. refl; listed = λ n. refl })
     why.2 why.1 (c.in-Err-NoFold.ensures.refused refl) b at)
 
 pub returns-in-Err-Disk : goal.returns-in-Err-Disk
@@ -52,7 +52,7 @@ returns-in-Err-Disk c =
     let why = subst (IsFoldError c.args.actor.0 c.args.slot c.args.self.now.store c.fold_next.new.self) is
     c.in-Err-Disk.ensures.error in
     next_disk_fails c.args.self.now _ c.args.actor.0 c.args.slot
-    (record { now = refl; settings = refl; loans = λ n. refl; listed = λ n. refl })
+    (record { now = refl; plan = refl; settings = refl; loans = λ n. refl; listed = λ n. refl })
     why.1 why.2 c.fold_next.ensures.later why.3 c.in-Err-Disk.ensures.no_view c.fold_next.ensures.outs
     (c.in-Err-Disk.ensures.refused refl)
 
@@ -62,6 +62,6 @@ returns-in-Err-Memory c =
     let why = subst (IsFoldError c.args.actor.0 c.args.slot c.args.self.now.store c.fold_next.new.self) is
     c.in-Err-Memory.ensures.error in
     next_out_of_memory c.args.self.now _ c.args.actor.0 c.args.slot
-    (record { now = refl; settings = refl; loans = λ n. refl; listed = λ n. refl })
+    (record { now = refl; plan = refl; settings = refl; loans = λ n. refl; listed = λ n. refl })
     why.1 why.2 c.fold_next.ensures.later c.in-Err-Memory.ensures.no_view c.fold_next.ensures.outs
     (c.in-Err-Memory.ensures.refused refl)

@@ -11,14 +11,14 @@ pub returns-in-Ok-Some : goal.returns-in-Ok-Some
 returns-in-Ok-Some c =
     let is : c.in-Ok-Some.field-0 ≡ Some c.in-Ok-Some.stored = cc in
     bury_acts c.args.self.now _ (Reap c.args.key.now) c.args.key.now (reap_call c.args.key.now) (reap_buries c.args.key.now)
-    (record { now = refl; settings = refl; loans = λ n. refl; listed = λ n. refl })
+    (record { now = refl; plan = refl; settings = refl; loans = λ n. refl; listed = λ n. refl })
     c.reap.ensures.rest _ c.in-Ok-Some.field-0 c.in-Ok-Some.stored is c.in-Ok-Some.ensures.buried (c.in-Ok-Some.ensures.ok refl)
 
 pub returns-in-Ok-None : goal.returns-in-Ok-None
 returns-in-Ok-None c =
     let is : c.in-Ok-None.field-0 ≡ None = cc in
     bury_none c.args.self.now _ (Reap c.args.key.now) c.args.key.now (reap_call c.args.key.now) (reap_buries c.args.key.now)
-    (record { now = refl; settings = refl; loans = λ n. refl; listed = λ n. refl })
+    (record { now = refl; plan = refl; settings = refl; loans = λ n. refl; listed = λ n. refl })
     c.reap.ensures.rest _ c.in-Ok-None.field-0 is c.in-Ok-None.ensures.buried (c.in-Ok-None.ensures.ok refl)
 
 pub returns-in-Err : goal.returns-in-Err
@@ -27,5 +27,5 @@ returns-in-Err c = λ who b at.
     subst (λ (line : Printed). Result b who (Reap c.args.key.now) line new) (sym c.refused_write.ensures)
     (bury_refused c.args.self.now new (Reap c.args.key.now) c.args.key.now (reap_call c.args.key.now)
     (reap_buries c.args.key.now)
-    (record { now = refl; settings = refl; loans = λ n. refl; listed = λ n. refl })
+    (record { now = refl; plan = refl; settings = refl; loans = λ n. refl; listed = λ n. refl })
     c.reap.ensures.rest c.in-Err.error c.in-Err.ensures.error.1 (c.in-Err.ensures.refused refl) who b at)
