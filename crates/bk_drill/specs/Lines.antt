@@ -83,16 +83,22 @@ pub record Stops (test : Test) (b : Between) (keep : Option ℕ) (flips : List �
 abbrev pub MeetsChosen : Planned → ℕ → Type 0
 MeetsChosen plan calls = (call : ℕ) × (plan.calls < call) × (call ≤ calls) × IsSome (effect_at call plan)
 
--- An action printed this line, and calls of the disk were made up to this number. DISK is printed only where one of
--- them was chosen to fail, and READ never: a view that was opened doesn't fail.
+-- An action printed this line, and the calls of the disk are this many then. DISK is printed only where one of those
+-- that it made was chosen to fail; and where one was, nothing else is, but for MEMORY. READ is never printed: no view
+-- that was opened is chosen to fail.
+pub record IsAsPlanned (plan : Planned) (calls : ℕ) (line : Printed) : Type 0 where
+  pub made : plan.calls ≤ calls
+  pub refused : line ≡ Disk → MeetsChosen plan calls
+  pub fails : MeetsChosen plan calls → (line ≡ Disk) ⊎ (line ≡ Memory)
+  pub not_read : line ≢ Read
+
+-- The action is one of the history, and the calls of the disk are counted on.
 pub record ActsOnDisk (b : Between) (who : ℕ) (action : Action) (line : Printed) (later : Between) : Type 0 where
   pub acted : Between
   pub acts : Acts b who action line acted
   pub calls : ℕ
-  pub made : b.plan.calls ≤ calls
+  pub planned : IsAsPlanned b.plan calls line
   pub counted : later ≡ with_plan (counted_to calls b.plan) acted
-  pub refused : line ≡ Disk → MeetsChosen b.plan calls
-  pub not_read : line ≢ Read
 
 -- ---- the whole
 
@@ -100,11 +106,10 @@ pub record ActsOnDisk (b : Between) (who : ℕ) (action : Action) (line : Printe
 abbrev pub Sets : StoreSettings → List Printed → Between → Type 0
 Sets settings lines later = (lines ≡ []) × IsEmpty settings later
 
--- The call is chosen. Where there is no memory to note it, that is printed, and it is chosen or not.
+-- The call is chosen, or there is no memory to note it.
 abbrev pub Chooses : Between → Planned → List Printed → Between → Type 0
 Chooses b plan lines later =
-    ((lines ≡ []) × (later ≡ with_plan plan b))
-    ⊎ ((lines ≡ Memory ∷ []) × ((later ≡ b) ⊎ (later ≡ with_plan plan b)))
+    ((lines ≡ []) × (later ≡ with_plan plan b)) ⊎ ((lines ≡ Memory ∷ []) × (later ≡ b))
 
 abbrev pub LineIs : Test → Between → Line → List Printed → Between → Type 0
 LineIs test b (Max n) lines later = Sets (record b.opening.settings { max_file = n }) lines later
