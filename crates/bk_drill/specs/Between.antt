@@ -49,10 +49,11 @@ pub record Begins (b : Between) : Type 0 where
   pub kept : (actor : ℕ) → b.kept actor ≡ None
   pub plan : b.plan ≡ counted_to b.plan.calls nothing_chosen
 
--- a store without any write, with these settings
+-- a store without any write and any file, with these settings
 pub record IsEmpty (given : StoreSettings) (b : Between) : Type 0 where
   pub begins : Begins b
   pub log : b.opening.log ≡ []
+  pub last_file : b.opening.snapshot.last_file.0 ≡ 0
   pub settings : b.opening.settings ≡ given
   pub sound : b.sound ≡ true
   pub moment : b.moment.0 ≡ 0

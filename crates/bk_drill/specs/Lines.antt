@@ -2,13 +2,15 @@
 use Rattle.std.specs.Prelude.{◌≡◌, ◌≢◌, ◌⊎◌, ℕ, ◌<◌, ◌≤◌, ◌&&◌, Bool, true, IsTrue, IsSome, List, [], ◌∷◌, ◌++◌, length, map, Option, None, Some}
 use Rattle.bk_base.specs.declared.histories.StoreSettings.{StoreSettings}
 use Rattle.bk_disk.specs.Crashes.{MayLeave}
-use Rattle.bk_disk.specs.Told.{Front, Image, Table, at}
+use Rattle.bk_disk.specs.Told.{Front, Image, Table, Told, at, listing}
 use Rattle.bk_exchange.specs.Answers.{map_size}
+use Rattle.bk_image.specs.Chance.{NoChance}
 use Rattle.bk_image.specs.Prefix.{HasPrefix, MeetsPrefix, Prefix}
 use Rattle.bk_image.specs.SoundDirectory.{IsSound}
 use Rattle.bk_keydir.specs.declared.loads.Loaded.{Loaded}
 use Rattle.bk_keydir.specs.declared.loads.Torn.{Torn}
 use Rattle.bk_laws.specs.Log.{last_seq}
+use Rattle.bk_load.specs.Directory.{greatest_in}
 use Rattle.bk_load.specs.Loads.{IsLoadedFrom}
 use Rattle.bk_load.specs.Tidying.{Tidied}
 use Rattle.bk_memdisk.specs.Crash.{crashed}
@@ -34,10 +36,19 @@ pub record Crash : Type 0 where
   pub before : Image
   pub image : Image
 
+-- the crash of a disk by a choice
+abbrev pub crash_of : Option ℕ → List ℕ → Told → Crash
+crash_of keep flips t = record { fronts = t.fronts; before = t.image; image = crashed keep flips t.fronts t.image }
+
 -- The crash left what the choice says, which is one of the images that it may leave.
 pub record IsCrash (keep : Option ℕ) (flips : List ℕ) (c : Crash) : Type 0 where
   pub chosen : c.image ≡ crashed keep flips c.fronts c.before
   pub allowed : MayLeave c.fronts c.image
+
+-- A crash that changes no byte meets no chance match; of each other one the test says whether it did.
+abbrev pub is_clear : Test → List ℕ → Crash → Bool
+is_clear test [] c = true
+is_clear test (flip ∷ flips) c = test c.fronts c.image
 
 -- The disk that it found was that of the history: it had the map of the log, and each image that a crash may
 -- leave of it has that of a prefix with each synced write.
@@ -70,9 +81,12 @@ pub record Stops (test : Test) (b : Between) (keep : Option ℕ) (flips : List �
   pub crash : Crash
   pub is : IsCrash keep flips crash
   pub disk : IsTrue b.sound → IsDiskOf b crash
-  pub sound : later.sound ≡ (b.sound && test crash.fronts crash.image)
+  pub flipless : IsTrue b.sound → flips ≡ [] → NoChance crash.fronts crash.image
+  pub sound : later.sound ≡ (b.sound && is_clear test flips crash)
   pub reopened : IsTrue later.sound → IsReopened b later crash
   pub begins : Begins later
+  -- files are numbered on from the greatest number that is there
+  pub last_file : later.opening.snapshot.last_file.0 ≡ greatest_in (listing crash.image)
   pub settings : later.opening.settings ≡ b.opening.settings
   pub moment : later.moment ≡ b.moment
   pub prints : Prints later crash lines

@@ -1,10 +1,11 @@
 //! A drill between two lines of its script.
-ghost use Rattle.std.specs.Prelude.{◌≤◌};
-ghost use Rattle.bk_drill.specs.Progress.{ActsAs};
+ghost use Rattle.std.specs.Prelude.{◌≤◌, IfOk};
+ghost use Rattle.bk_drill.specs.Progress.{ActsAs, IsNew, IsOver};
 
 use crate::loans::Loans;
+use crate::stops::{Recovered, recover_store};
 use crate::tallies::Tallies;
-use bk_base::Moment;
+use bk_base::{Memory, Moment};
 use bk_memdisk::{MemDisk, Plan};
 use bk_policy::Settings;
 use bk_script::{Action, Actor, Printed};
@@ -27,6 +28,37 @@ pub(crate) struct Drill {
 }
 
 impl Drill {
+    /// A drill over an empty disk.
+    pub(crate) fn new(alloc: Global, settings: Settings) -> Result<Drill, Memory>
+        ensures { IfOk result (IsNew settings) }
+    {
+        let Recovered { store, plan, .. } = recover_store(alloc, MemDisk::new(alloc), settings)?;
+        Drill::over(alloc, store, settings, Moment(0), plan)
+    }
+
+    /// A drill over this store, with nothing kept.
+    pub(crate) fn over(
+        alloc: Global,
+        store: Store<MemDisk>,
+        settings: Settings,
+        now: Moment,
+        plan: Plan,
+    ) -> Result<Drill, Memory>
+        ensures { IfOk result (IsOver store settings now plan) }
+    {
+        let loans = Loans::new(alloc)?;
+        let tallies = Tallies::new(alloc)?;
+        Ok(Drill {
+            alloc,
+            store,
+            settings,
+            now,
+            loans,
+            tallies,
+            plan,
+        })
+    }
+
     /// Does what an actor does, and gives the line that it prints.
     pub(crate) fn act(&mut self, actor: Actor, action: Action) -> Printed
         requires { actor.0 ≤ 26 }

@@ -7,6 +7,7 @@ mod ends;
 mod folds;
 mod gets;
 mod loans;
+mod stops;
 mod tallies;
 mod values;
 mod writes;

@@ -1,13 +1,18 @@
 //! What the actors keep to be read.
-ghost use Rattle.std.specs.Prelude.{◌≡◌, ◌≤◌, ◌==◌, ℕ, None, Some, cond, IfSome};
+ghost use Rattle.std.specs.Prelude.{◌≡◌, ◌≤◌, ◌==◌, ℕ, None, Some, cond, IfOk, IfSome};
 ghost use Rattle.bk_drill.specs.Loans.{IsUnread, loan_in};
 
+use bk_base::Memory;
 use bk_memdisk::MemView;
 use bk_script::Actor;
 use bk_store::Loan;
+use std::alloc::Global;
 use std::marker::Model;
 
-/// The loan that each actor keeps, whose numbers are 1 to 26. Nothing of it was read.
+/// One more than there are actors, whose numbers begin with 1.
+const PLACES: usize = 27;
+
+/// The loan that each actor keeps. Nothing of it was read.
 #[derive(Drop)]
 pub(crate) struct Loans {
     kept: Vec<Option<Loan<MemView>>>,
@@ -27,6 +32,19 @@ impl Model for Loans {
 }
 
 impl Loans {
+    /// No actor keeps a loan.
+    pub(crate) fn new(alloc: Global) -> Result<Loans, Memory>
+        ensures { IfOk result (λ loans. (actor : ℕ) → loan_in loans actor ≡ None) }
+    {
+        let mut kept = Vec::new(alloc);
+        for _ in 0..PLACES {
+            if kept.push(None).is_err() {
+                return Err(Memory);
+            }
+        }
+        Ok(Loans { kept })
+    }
+
     /// The actor keeps this loan, in the place of an older one.
     pub(crate) fn keep(&mut self, actor: Actor, loan: Loan<MemView>)
         requires actor { actor.0 ≤ 26 }

@@ -1,11 +1,16 @@
 //! How many pairs each fold has listed.
-ghost use Rattle.std.specs.Prelude.{◌≡◌, ◌+◌, ◌==◌, ℕ, cond, min};
+ghost use Rattle.std.specs.Prelude.{◌≡◌, ◌+◌, ◌==◌, ℕ, cond, min, IfOk};
 ghost use Rattle.bk_store.specs.Sweeps.{last_count};
 ghost use Rattle.bk_drill.specs.Loans.{tally_in};
 
+use bk_base::Memory;
+use std::alloc::Global;
 use std::marker::Model;
 
-/// How many pairs the fold in each of the 256 slots has listed that a script may name; 0 where none is open.
+/// How many slots a script may name.
+const SLOTS: usize = 256;
+
+/// How many pairs the fold in each slot has listed; 0 where none is open.
 #[derive(Drop)]
 pub(crate) struct Tallies {
     counts: Vec<u64>,
@@ -22,6 +27,16 @@ impl Model for Tallies {
 }
 
 impl Tallies {
+    pub(crate) fn new(alloc: Global) -> Result<Tallies, Memory>
+        ensures { IfOk result (λ tallies. (n : ℕ) → tally_in tallies n ≡ 0) }
+    {
+        let counts: Result<_, _> = vec![in alloc; 0u64; SLOTS];
+        match counts {
+            Ok(counts) => Ok(Tallies { counts }),
+            Err(_) => Err(Memory),
+        }
+    }
+
     /// The fold in this slot listed a pair more. The count stands still at its last number.
     pub(crate) fn add(&mut self, slot: u8)
         ensures { (n : ℕ) → tally_in self.new n ≡ cond (n == slot) (min (tally_in self.old n + 1) last_count) (tally_in self.old n) }
