@@ -5,3 +5,4 @@ pub mod Drills
 pub mod Loans
 pub mod Shown
 pub mod Progress
+pub mod Running
