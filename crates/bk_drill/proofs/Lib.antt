@@ -1,3 +1,5 @@
+pub mod Inboxes
+pub mod Going
 pub mod Acting
 pub mod Writing
 pub mod Finding

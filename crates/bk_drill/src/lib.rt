@@ -1,15 +1,20 @@
-//! Drills: a script of callers, folds, faults and stops, run over a store in memory. What each line does is in
-//! `specs/`; so far the actions are there.
+//! Drills: a script of callers, folds, faults and stops, run over a store in memory.
 #![tactic(auto)]
 
 mod drills;
 mod ends;
 mod folds;
 mod gets;
+mod inbox;
 mod loans;
+mod running;
 mod stops;
 mod tallies;
 mod values;
 mod writes;
 
 pub use ends::DrillEnd;
+pub use running::drill;
+
+#[cfg(test)]
+mod tests;
