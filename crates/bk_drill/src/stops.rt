@@ -14,6 +14,7 @@ use bk_keydir::Torn;
 use bk_load::recover;
 use bk_memdisk::{Choice, MemDisk, Plan};
 use bk_policy::Settings;
+use bk_progress::Silent;
 use bk_script::{Flips, Printed, write_line};
 use bk_store::Store;
 use std::alloc::Global;
@@ -75,7 +76,7 @@ pub(crate) fn recover_store(
     requires { NoneLent (told_by disk).fronts }
     ensures { IfOk result (IsRecovered settings (told_by disk)) }
 {
-    let Ok(loaded) = recover(alloc, &mut disk) else {
+    let Ok(loaded) = recover(alloc, &mut disk, &mut Silent) else {
         return Err(Memory);
     };
     let seq = loaded.last_seq;
