@@ -120,7 +120,8 @@ follows_kept sound v u o h tried who call answer faults views f rises still same
 
 -- An event that changes neither the log nor the folds, nor what is kept.
 pub still_acts : (old new : Drill) (b : Between) (who : ℕ) (action : Action) (line : Printed) (call : Call) (answer : Answer)
-    (faults views : ℕ) → IsAt old b → new.now ≡ old.now → new.plan ≡ old.plan → new.settings ≡ old.settings → ((n : ℕ) → loan_in new.loans n ≡ loan_in old.loans n)
+    (faults views : ℕ) → IsAt old b → new.now ≡ old.now → new.plan ≡ old.plan → new.settings ≡ old.settings
+    → ((n : ℕ) → loan_in new.loans n ≡ loan_in old.loans n)
     → ((n : ℕ) → tally_in new.tallies n ≡ tally_in old.tallies n) → Rises old.store new.store faults views → Still old.store new.store
     → ((s : State) → changed who call answer s ≡ s) → Keeps true (entry_by who call answer) old.store new.store
     → Does b who action (step_of b.sound (entry_by who call answer) faults views new.store ∷ []) line

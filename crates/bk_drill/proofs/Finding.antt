@@ -115,7 +115,8 @@ loans_without sound who loans kept are n =
       | inr p ↦ rw p (are n)
     ]
 
-pub get_finds : (old new : Drill) (key : List ℕ) (who : ℕ) (l : Lent) → new.now ≡ old.now → new.plan ≡ old.plan → new.settings ≡ old.settings
+pub get_finds : (old new : Drill) (key : List ℕ) (who : ℕ) (l : Lent)
+    → new.now ≡ old.now → new.plan ≡ old.plan → new.settings ≡ old.settings
     → ((n : ℕ) → tally_in new.tallies n ≡ tally_in old.tallies n) → ((n : ℕ) → loan_in new.loans n ≡ cond (n == who) (Some l) (loan_in old.loans n))
     → Looks old new → new.store.files.fallible_views ≡ bumped l.fallible old.store.files.fallible_views
     → Keeps true (entry_by who (get_call key old.now) (Found (drop l.value_at l.left))) old.store new.store
@@ -173,7 +174,8 @@ read_line_is b l k line is (inl (value, shown, bytes)) = inl (shown ∙ ap Value
 read_line_is b l k line is (inr why) = inr (unread_is b l k.fallible line is.fallible is.whole why)
 
 -- an action without a step
-acts_not : (old new : Drill) (b : Between) (who : ℕ) (line : Printed) → IsAt old b → new.store ≡ old.store → new.now ≡ old.now → new.plan ≡ old.plan → new.settings ≡ old.settings
+acts_not : (old new : Drill) (b : Between) (who : ℕ) (line : Printed) → IsAt old b → new.store ≡ old.store
+    → new.now ≡ old.now → new.plan ≡ old.plan → new.settings ≡ old.settings
     → ((n : ℕ) → tally_in new.tallies n ≡ tally_in old.tallies n) → ((n : ℕ) → loan_in new.loans n ≡ cond (n == who) None (loan_in old.loans n))
     → Reads b (b.kept who) line → Result b who read_action line new
 acts_not old new b who line at store now plan settings listed loans reads = (
@@ -208,7 +210,8 @@ acts_not old new b who line at store now plan settings listed loans reads = (
     unnumbered (Some k) (inl is) = ap is_numbered is
     unnumbered (Some k) (inr is) = unread_line b k.fallible line is
 
-pub read_finds_none : (old new : Drill) (who : ℕ) → new.store ≡ old.store → new.now ≡ old.now → new.plan ≡ old.plan → new.settings ≡ old.settings
+pub read_finds_none : (old new : Drill) (who : ℕ) → new.store ≡ old.store
+    → new.now ≡ old.now → new.plan ≡ old.plan → new.settings ≡ old.settings
     → ((n : ℕ) → tally_in new.tallies n ≡ tally_in old.tallies n) → ((n : ℕ) → loan_in new.loans n ≡ cond (n == who) None (loan_in old.loans n))
     → None ≡ loan_in old.loans who → (b : Between) → IsAt old b → Result b who read_action NoLoan new
 read_finds_none old new who store now plan settings listed loans none b at =
@@ -219,7 +222,8 @@ read_finds_none old new who store now plan settings listed loans none b at =
     go None (Some k) is h = absurd h
     go (Some l) k is h = absurd (cc is)
 
-pub read_gives : (old new : Drill) (who : ℕ) (l : Lent) (line : Printed) → new.store ≡ old.store → new.now ≡ old.now → new.plan ≡ old.plan → new.settings ≡ old.settings
+pub read_gives : (old new : Drill) (who : ℕ) (l : Lent) (line : Printed) → new.store ≡ old.store
+    → new.now ≡ old.now → new.plan ≡ old.plan → new.settings ≡ old.settings
     → ((n : ℕ) → tally_in new.tallies n ≡ tally_in old.tallies n) → ((n : ℕ) → loan_in new.loans n ≡ cond (n == who) None (loan_in old.loans n))
     → Some l ≡ loan_in old.loans who → ReadsLoan l line → (b : Between) → IsAt old b → Result b who read_action line new
 read_gives old new who l line store now plan settings listed loans some reads b at =

@@ -162,7 +162,8 @@ fold_opens old new who f by is keeps b at =
           (is_step_of b.sound e faults 0 v u t rises) refl;
       whole = at.follows.whole;
     })
-    (at.moment ∙ sym by.now) (at.plan ∙ sym by.plan) (kept.settings ∙ at.settings ∙ sym by.settings) (set_long v u f.slot (Some (opened who f.epoch old.now)) keys ∙ at.slots) (loans_kept old new b at by)
+    (at.moment ∙ sym by.now) (at.plan ∙ sym by.plan) (kept.settings ∙ at.settings ∙ sym by.settings)
+    (set_long v u f.slot (Some (opened who f.epoch old.now)) keys ∙ at.slots) (loans_kept old new b at by)
     (λ slot low. by.listed slot ∙ at.listed slot low
     ∙ ap (λ (n : ℕ). min n last_count)
     (sym (listed_opened (record { listed = []; caller = who; epoch = f.epoch; now = old.now; slot = f.slot })
@@ -394,7 +395,8 @@ shows_line key l line (inr why) = absurd why
 open_some : (o : Option Slot) (s : Slot) → o ≡ Some s → is_some o ≡ true
 open_some o s is = ap (λ (x : Option Slot). is_some x) is
 
-pub fold_gives : (old new : Drill) (who slot : ℕ) (key : List ℕ) (l : Lent) (line : Printed) → new.now ≡ old.now → new.plan ≡ old.plan → new.settings ≡ old.settings
+pub fold_gives : (old new : Drill) (who slot : ℕ) (key : List ℕ) (l : Lent) (line : Printed)
+    → new.now ≡ old.now → new.plan ≡ old.plan → new.settings ≡ old.settings
     → ((n : ℕ) → loan_in new.loans n ≡ loan_in old.loans n)
     → ((n : ℕ) → tally_in new.tallies n ≡ cond (n == slot) (min (tally_in old.tallies n + 1) last_count) (tally_in old.tallies n))
     → GivesPair who slot key l old.store new.store → ShowsPair key l line
@@ -466,7 +468,8 @@ fold_gives old new who slot key l line now plan settings loans listed g shows b 
 
 -- ---- it is closed
 
-pub fold_closes : (old new : Drill) (who slot : ℕ) → new.now ≡ old.now → new.plan ≡ old.plan → new.settings ≡ old.settings
+pub fold_closes : (old new : Drill) (who slot : ℕ)
+    → new.now ≡ old.now → new.plan ≡ old.plan → new.settings ≡ old.settings
     → ((n : ℕ) → loan_in new.loans n ≡ loan_in old.loans n)
     → ((n : ℕ) → tally_in new.tallies n ≡ cond (n == slot) 0 (tally_in old.tallies n)) → IsClosed slot old.store new.store
     → who_of (slot_at old.store.keys.slots slot) ≡ Some who → Keeps true (entry_by who (FoldClose slot) Done) old.store new.store

@@ -7,3 +7,6 @@ pub mod Folding
 pub mod Keeping
 pub mod Flipless
 pub mod Stopping
+pub mod Planning
+pub mod Parting
+pub mod RunningLines

@@ -90,7 +90,8 @@ wrote_acts old new b who action call seq w at by rest writes next seq_next goes 
     (writes (state_at b)) next (settings_kept v u rest) seq_next rest.slots
     (λ t. goes_in b.sound e v u goes t b.opening b.steps b.tried step (at.follows.stands t)
     (is_step_of b.sound e n 0 v u t rises) refl))
-    (at.moment ∙ sym by.now) (at.plan ∙ sym by.plan) (rest.settings ∙ at.settings ∙ sym by.settings) (ap (λ (l : List (Option Slot)). length l) rest.slots ∙ at.slots) (loans_kept old new b at by)
+    (at.moment ∙ sym by.now) (at.plan ∙ sym by.plan) (rest.settings ∙ at.settings ∙ sym by.settings)
+    (ap (λ (l : List (Option Slot)). length l) rest.slots ∙ at.slots) (loans_kept old new b at by)
     (listed_still old b step e (tally_in new.tallies) at by.listed refl (ap (λ (s : State). s.folds) (writes (state_at b))))
 
 -- ---- a write that was refused
@@ -190,7 +191,8 @@ refused_acts old new b who action w e at by rest error refuses size writing disk
     (tries_by b action w e l.left asked l.is_left)
     (follows_still b.sound v u b.opening b.steps b.tried l.left step q at.follows (counts_of b.sound q r.n 0 v u r.rises) refl refl
     (settings_kept v u rest) (seq_kept w v u e error) rest.slots l.stands)
-    (at.moment ∙ sym by.now) (at.plan ∙ sym by.plan) (rest.settings ∙ at.settings ∙ sym by.settings) (ap (λ (l : List (Option Slot)). length l) rest.slots ∙ at.slots) (loans_kept old new b at by)
+    (at.moment ∙ sym by.now) (at.plan ∙ sym by.plan) (rest.settings ∙ at.settings ∙ sym by.settings)
+    (ap (λ (l : List (Option Slot)). length l) rest.slots ∙ at.slots) (loans_kept old new b at by)
     (listed_still old b step q (tally_in new.tallies) at by.listed refl refl)
 
 -- ---- put

@@ -58,6 +58,10 @@ pub record IsOver (store : Shown) (settings : Settings) (now : Moment) (plan : P
   pub no_loan : (actor : ℕ) → loan_in d.loans actor ≡ None
   pub no_tally : (slot : ℕ) → tally_in d.tallies slot ≡ 0
 
+-- Only the room of its disk may be another: the store was parted from its disk and put together again.
+abbrev pub IsSameStore : Shown → Shown → Type 0
+IsSameStore old new = new ≡ record old { files = record old.files { room = new.files.room } }
+
 -- the line of a write that was refused
 abbrev pub line_of_put : PutError → Printed
 line_of_put FullSeq = Full Seq

@@ -3,10 +3,12 @@
 
 mod drills;
 mod ends;
+mod faults;
 mod folds;
 mod gets;
 mod inbox;
 mod loans;
+mod plans;
 mod running;
 mod stops;
 mod tallies;

@@ -29,7 +29,8 @@ returns-in-Ok-Some c =
 pub returns-in-Ok-None : goal.returns-in-Ok-None
 returns-in-Ok-None c =
     let is : c.in-Ok-None.field-0 ≡ None = cc in
-    fold_ends c.args.self.now _ c.args.actor.0 c.args.slot c.of.result (record { now = refl; plan = refl; settings = refl; loans = λ n. refl; listed = λ n. refl })
+    fold_ends c.args.self.now _ c.args.actor.0 c.args.slot c.of.result
+    (record { now = refl; plan = refl; settings = refl; loans = λ n. refl; listed = λ n. refl })
     (end_same c.args.actor.0 c.args.slot c.args.self.now.store c.fold_next.new.self c.in-Ok-None.field-0 is c.in-Ok-None.ensures.lent)
     c.in-Ok-None.ensures.lent.0 c.of.ensures
     (subst (λ x. Keeps true (entry_by c.args.actor.0 (FoldNext c.args.slot) (next_reply x)) c.args.self.now.store c.fold_next.new.self)
