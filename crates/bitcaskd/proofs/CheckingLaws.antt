@@ -5,14 +5,13 @@ use Rattle.std.proofs.lemmas.List.{append-nil}
 use Rattle.bk_base.specs.declared.statuses.Status.{Status}
 use Rattle.bk_base.specs.declared.statuses.Status.TheVariants.{Done, Memory, Disk, Source, Sink, Settings}
 use Rattle.bk_disk.specs.Causes.{Rose}
-use Rattle.bk_disk.specs.Told.{Image, IsWell, Told, at}
+use Rattle.bk_disk.specs.Told.{Image, IsWell, Told}
 use Rattle.bk_load.specs.Courses.{Came, Seen}
-use Rattle.bk_load.specs.Lists.{AreOdd}
 use Rattle.bk_load.specs.SettingsFile.{settings_file}
 use Rattle.bk_load.specs.Steps.{AsksOnly}
 use Rattle.bk_load.proofs.Courses.{came_trans}
 use Rattle.bk_policy.specs.declared.settings.Settings.{Settings as StoreSettings}
-use Rattle.bk_report.specs.Directory.{IsReportOf, Tells}
+use Rattle.bk_report.specs.Directory.{IsReport, IsReportOf, Tells}
 use Rattle.bk_report.specs.declared.errors.ReportError.{ReportError}
 use Rattle.bk_report.specs.declared.errors.ReportError.TheVariants.{Disk as report_disk, Read as report_read, Sink as report_sink, Memory as report_memory}
 use Rattle.bitcaskd.specs.Checking.{Checks, IsEndOf, Reports, of_report}
@@ -21,7 +20,7 @@ use Rattle.bitcaskd.specs.Opening.{IsCauseOf, IsRefused, SaysSettings}
 use Rattle.bitcaskd.specs.Run.{Outside, Telling, seen_in}
 use Rattle.bitcaskd.specs.declared.command.Command.{Command}
 use Rattle.bitcaskd.specs.declared.command.Command.TheVariants.{Check}
-use Rattle.bitcaskd.proofs.OpeningLaws.{holds_still, keeps_log, Rose-further}
+use Rattle.bitcaskd.proofs.OpeningLaws.{keeps_log, Rose-further}
 
 -- ---- a directory that wasn't recovered
 
@@ -67,12 +66,11 @@ refused_checks tells old new status refused well client same later = record {
 earlier_report : (len : ℕ) (was mid now : Told) (text : List ℕ) → AsksOnly settings_file len was mid → IsReportOf mid now text
     → IsReportOf was now text
 earlier_report len was mid now text asks is = record {
-  loaded = is.loaded;
-  from = is.from;
-  odd = subst (λ (i : Image). AreOdd (at i) is.loaded.report.odd.items) asks.image is.odd;
-  once = is.once;
-  sound = λ log sound. is.sound log (holds_still len was mid log asks sound);
+  files = is.files;
+  report = is.report;
+  is_report = subst (λ (i : Image). IsReport i is.files is.report) asks.image is.is_report;
   says = is.says;
+  idle = is.idle;
 }
 
 -- What a report came to, over a directory whose settings were read before

@@ -1,4 +1,4 @@
--- What a run of `check` does: the directory is recovered, and its report written.
+-- What a run of `check` does: the directory is recovered, and a report of it as it was found is written.
 use Rattle.std.specs.Prelude.{◌≡◌, ℕ, ◌≤◌, List, [], ◌++◌, Bool, IsTrue, Result, Ok, Err}
 use Rattle.bk_base.specs.declared.statuses.Status.{Status}
 use Rattle.bk_base.specs.declared.statuses.Status.TheVariants.{Done, Disk, Memory, Sink}
@@ -14,8 +14,8 @@ use Rattle.bk_report.specs.declared.errors.ReportError.TheVariants.{Disk as repo
 use Rattle.bitcaskd.specs.Opening.{IsCauseOf, KeepsLog, SaysSettings}
 use Rattle.bitcaskd.specs.Run.{Outside, Telling, seen_in}
 
--- What was written: the report of the directory once it was recovered; a first part of it, where the sink failed; or
--- else nothing.
+-- What was written: the report of the directory as it was found; a first part of it, where the sink failed; or else
+-- nothing.
 abbrev pub Reports : Status → Bool → Told → Told → List ℕ → Type 0
 Reports Done tells was now output = IsTrue tells → IsReportOf was now output
 Reports Sink tells was now output = (rest : List ℕ) × (IsTrue tells → IsReportOf was now (output ++ rest))

@@ -50,7 +50,7 @@ use Rattle.bk_load.proofs.Tidied.{own_name}
 
 -- ---- the newest of some versions
 
-abbrev Read : Type 0
+abbrev pub Read : Type 0
 Read = List ℕ × Version
 
 newer_from : (a b : Option Version) (v : Version) → newer a b ≡ Some v → (a ≡ Some v) ⊎ (b ≡ Some v)
@@ -126,7 +126,7 @@ if_is key q v is = go (bytes_eq key q.0) refl is where
   go false e is = absurd (cc is)
 
 -- the newest of the key was read
-newest_read : (key : List ℕ) (ps : List Read) (v : Version) → newest_in key ps ≡ Some v
+pub newest_read : (key : List ℕ) (ps : List Read) (v : Version) → newest_in key ps ≡ Some v
     → (p : Read) × In p ps × (bytes_eq key p.0 ≡ true) × (p.1 ≡ v)
 newest_read key [] v is = absurd (cc is)
 newest_read key (q ∷ qs) v is =
@@ -198,7 +198,7 @@ is_placed file from (x ∷ xs) w (inr later) =
     let (v, is_in, seq) = is_placed file (from + size_of x) xs w later in (v, inr is_in, seq)
 
 -- in one of the files
-placed_file : (books : Books) (fs : List FileFound) (p : Read) → In p (placed_in books fs)
+pub placed_file : (books : Books) (fs : List FileFound) (p : Read) → In p (placed_in books fs)
     → (f : FileFound) × In f fs × StandsAt f.row.id 0 (books (main f.row.id.0)) p
 placed_file books [] p is_in = absurd is_in
 placed_file books (f ∷ fs) p is_in =
@@ -286,7 +286,7 @@ found_low low (g ∷ gs) f rise (inl is) =
 found_low low (g ∷ gs) f rise (inr later) =
     let p = rise.0 in let q = found_low (g.row.id.0 + 1) gs f rise.1 later in omega (arith, p, q)
 
-found_counts : (r : Reading) (found : List FileFound) (f : FileFound) → HasNoList r → FilesRise 1 found → AreFound r found
+pub found_counts : (r : Reading) (found : List FileFound) (f : FileFound) → HasNoList r → FilesRise 1 found → AreFound r found
     → In f found → Counts r (main f.row.id.0)
 found_counts r found f none rise files is_in =
     let is = all_in (IsFound r) found f files.each is_in in
@@ -343,7 +343,7 @@ pub record IsWon (r : Reading) (log : List Write) (key : List ℕ) (v : Version)
   pub wins : winner log key ≡ Some write
   pub stands : VersionStands r v write
 
-won : (r : Reading) (books : Books) (found : List FileFound) (log : List Write) (key : List ℕ) (v : Version) → Held r books found log
+pub won : (r : Reading) (books : Books) (found : List FileFound) (log : List Write) (key : List ℕ) (v : Version) → Held r books found log
     → newest_in key (placed_in books found) ≡ Some v → IsWon r log key v
 won r books found log key v h newest = go (newest_read key (placed_in books found) v newest) where
   go : ((p : Read) × In p (placed_in books found) × (bytes_eq key p.0 ≡ true) × (p.1 ≡ v)) → IsWon r log key v
@@ -397,7 +397,7 @@ key_stands r books found log key h = go (newest_in key (placed_in books found)) 
   go None none = no_winner (winner log key) none refl
   go (Some v) newest = a_winner v v.gone refl (won r books found log key v h newest)
 
-put_if_is : (o : Option Version) (v : Version) → put_if o ≡ Some v → o ≡ Some v
+pub put_if_is : (o : Option Version) (v : Version) → put_if o ≡ Some v → o ≡ Some v
 put_if_is None v is = absurd (cc is)
 put_if_is (Some w) v is = go w.gone is where
   go : (g : Bool) → cond g None (Some w) ≡ Some v → Some w ≡ Some v

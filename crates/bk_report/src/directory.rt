@@ -15,8 +15,8 @@ use bk_load::recover;
 use bk_progress::Progress;
 use std::alloc::Global;
 
-/// Recovers a directory, whatever a crash left of it, and writes its report. The same files count
-/// afterwards as before.
+/// Recovers a directory, whatever a crash left of it, and writes the report of it as it was found. The same files
+/// count afterwards as before.
 ///
 /// `Disk` comes only where the disk's count of faults rose, `Read` only where that of the fallible views did, and
 /// `Sink` only where the sink's did; then a first part may have been written, and otherwise nothing was.
