@@ -5,7 +5,6 @@ use Rattle.std.proofs.lemmas.List.{append-nil}
 use Rattle.bk_base.specs.declared.histories.StoreSettings.{StoreSettings}
 use Rattle.bk_base.specs.declared.numbers.Moment.{Moment}
 use Rattle.bk_memdisk.specs.Plans.{Planned, chosen, counted_to, fused}
-use Rattle.bk_policy.specs.declared.settings.Settings.{Settings}
 use Rattle.bk_script.specs.declared.actors.Actor.{Actor}
 use Rattle.bk_script.specs.declared.lines.Action.{Action}
 use Rattle.bk_script.specs.declared.lines.Line.TheVariants.{Max, Ttl, At, Fail, Fuse, By}
