@@ -117,7 +117,8 @@ loans_without sound who loans kept are n =
 
 pub get_finds : (old new : Drill) (key : List ℕ) (who : ℕ) (l : Lent)
     → new.now ≡ old.now → new.plan ≡ old.plan → new.settings ≡ old.settings
-    → ((n : ℕ) → tally_in new.tallies n ≡ tally_in old.tallies n) → ((n : ℕ) → loan_in new.loans n ≡ cond (n == who) (Some l) (loan_in old.loans n))
+    → ((n : ℕ) → tally_in new.tallies n ≡ tally_in old.tallies n)
+    → ((n : ℕ) → loan_in new.loans n ≡ cond (n == who) (Some l) (loan_in old.loans n))
     → Looks old new → new.store.files.fallible_views ≡ bumped l.fallible old.store.files.fallible_views
     → Keeps true (entry_by who (get_call key old.now) (Found (drop l.value_at l.left))) old.store new.store
     → ((o : Opening) (h : List Step) (tried : List Write) → StandsFor old.store o h tried

@@ -267,7 +267,8 @@ has_no_fold old new action who slot asks by same other keeps b at =
 
 -- the fold has no pair left
 pub fold_ends : (old new : Drill) (who slot n : ℕ) → GoesBy old new → new.store ≡ old.store
-    → who_of (slot_at old.store.keys.slots slot) ≡ Some who → n ≡ tally_in old.tallies slot → Keeps true (entry_by who (FoldNext slot) end_answer) old.store new.store
+    → who_of (slot_at old.store.keys.slots slot) ≡ Some who → n ≡ tally_in old.tallies slot
+    → Keeps true (entry_by who (FoldNext slot) end_answer) old.store new.store
     → (b : Between) → IsAt old b → Result b who (Next slot) (end_line n) new
 fold_ends old new who slot n by same owner is keeps b at =
     let (s, there) = owned (slot_at old.store.keys.slots slot) who owner in
