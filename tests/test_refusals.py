@@ -30,7 +30,7 @@ class Words(StoreTest):
         here = str(self.folder)
         for words in (
             [], ["frob", here], ["pipe"], ["pipe", here, here], ["pipe", ""], [""], ["Pipe", here], ["pipe ", here],
-            [here], [here, "pipe"], ["merge", here], ["drill"], ["check", ""], ["check", here, here], ["list"], ["list", here, here],
+            [here], [here, "pipe"], ["merge", here], ["drill", ""], ["drill", here], ["check", ""], ["check", here, here], ["list"], ["list", here, here],
             ["fill", here], ["fill", here, ""], ["fill", here, "01"], ["fill", here, "+1"], ["fill", here, "-1"], ["fill", here, "1 "],
             ["fill", here, "10000001"], ["fill", here, "4294967297"], ["fill", "", "1"], ["fill", here, "1", "1"], ["fill", "1", here],
             ["--help", here], ["--version", "--help"], ["-h"], ["help"], ["pipe", "--help", here],

@@ -1,5 +1,6 @@
 pub mod CheckingLaws
 pub mod ClosingLaws
+pub mod DrillingLaws
 pub mod FillingLaws
 pub mod ListingLaws
 pub mod OpeningLaws

@@ -1,12 +1,12 @@
 -- The command that the words of a run ask for.
-use Rattle.std.proofs.Common.{◌≡◌, ◌≢◌, ◌∙◌, ℕ, zero, suc, ◌<◌, ◌≤◌, List, [], ◌∷◌, length, get_or, Option, None, Some, sym, ap, arith, codes}
+use Rattle.std.proofs.Common.{◌≡◌, ◌≢◌, ◌∙◌, ℕ, zero, suc, ◌<◌, ◌≤◌, List, [], ◌∷◌, length, get_or, Option, None, Some, refl, sym, ap, arith, codes}
 use Rattle.std.specs.Fmt.{decimal}
 use Rattle.std.specs.Option.{IfSome}
 use Rattle.std.proofs.lemmas.Fmt.{decimal_digit}
 use Rattle.bk_base.specs.Names.{IsFileNumber}
-use Rattle.bitcaskd.specs.Words.{AsksFor, IsCount, IsFillOf}
+use Rattle.bitcaskd.specs.Words.{AsksFor, HasDirectory, IsCount, IsFillOf, count_words, verb_of}
 use Rattle.bitcaskd.specs.declared.command.Command.{Command}
-use Rattle.bitcaskd.specs.declared.command.Command.TheVariants.{Check, Open}
+use Rattle.bitcaskd.specs.declared.command.Command.TheVariants.{Check, Drill, Open}
 use Rattle.bitcaskd.specs.declared.command.Work.TheVariants.{Fill, List as list_work, Pipe}
 
 -- the command that was found is the one that is asked for
@@ -19,6 +19,34 @@ pub none_asked : (o : Option Command) (words : List (List ℕ)) (command : Comma
     → ((c : Command) → AsksFor c words → o ≡ Some c) → AsksFor command words → ⊥
 none_asked o words command is only asked =
     let same : None ≡ Some command = sym is ∙ only command asked in cc same
+
+-- ---- one word, and two
+
+pub one_item : {A : Type 0} (xs : List A) (v : A) → 1 ≤ length xs → length xs < 2 → v ≡ get_or xs 0 v → xs ≡ v ∷ []
+one_item [] v low high first = absurd (omega arith)
+one_item (x ∷ []) v low high first = cc
+one_item (x ∷ y ∷ xs) v low high first = absurd (omega arith)
+
+pub two_items : {A : Type 0} (xs : List A) (v d : A) → 2 ≤ length xs → length xs < 3 → v ≡ get_or xs 0 v → d ≡ get_or xs 1 d
+    → xs ≡ v ∷ d ∷ []
+two_items [] v d low high first second = absurd (omega arith)
+two_items (x ∷ []) v d low high first second = absurd (omega arith)
+two_items (x ∷ y ∷ []) v d low high first second = cc
+two_items (x ∷ y ∷ z ∷ xs) v d low high first second = absurd (omega arith)
+
+-- a command of two words is known by the first
+pub named_only : (o : Option Command) (verb dir : List ℕ) (words : List (List ℕ)) → words ≡ verb ∷ dir ∷ []
+    → ((c : Command) → HasDirectory c → verb ≡ verb_of c → count_words c ≡ [] → o ≡ Some c)
+    → (c : Command) → AsksFor c words → o ≡ Some c
+named_only o verb dir words is only (Open Pipe) (other, asked, some, fits) =
+    only (Open Pipe) tt (ap (λ (ws : List (List ℕ)). get_or ws 0 []) (sym is ∙ asked)) refl
+named_only o verb dir words is only (Open list_work) (other, asked, some, fits) =
+    only (Open list_work) tt (ap (λ (ws : List (List ℕ)). get_or ws 0 []) (sym is ∙ asked)) refl
+named_only o verb dir words is only (Open (Fill count)) (other, asked, some, fits) =
+    let same = ap length (sym is ∙ asked) in absurd (omega (arith, same))
+named_only o verb dir words is only Check (other, asked, some, fits) =
+    only Check tt (ap (λ (ws : List (List ℕ)). get_or ws 0 []) (sym is ∙ asked)) refl
+named_only o verb dir words is only Drill asked = let same = ap length (sym is ∙ asked) in absurd (omega (arith, same))
 
 -- ---- a fill
 
@@ -39,6 +67,7 @@ fill_found (Some (Open (Fill count))) dir text words is some named =
 fill_found (Some (Open Pipe)) dir text words is some named = absurd named
 fill_found (Some (Open list_work)) dir text words is some named = absurd named
 fill_found (Some Check) dir text words is some named = absurd named
+fill_found (Some Drill) dir text words is some named = absurd named
 
 pub fill_only : (o : Option Command) (dir text : List ℕ) (words : List (List ℕ)) → words ≡ codes "fill" ∷ dir ∷ text ∷ []
     → ((c : Command) → IsFillOf c text → o ≡ Some c) → (c : Command) → AsksFor c words → o ≡ Some c
@@ -50,6 +79,8 @@ fill_only o dir text words is only (Open Pipe) (other, asked, some, fits) =
 fill_only o dir text words is only (Open list_work) (other, asked, some, fits) =
     let same = ap length (sym is ∙ asked) in absurd (omega (arith, same))
 fill_only o dir text words is only Check (other, asked, some, fits) =
+    let same = ap length (sym is ∙ asked) in absurd (omega (arith, same))
+fill_only o dir text words is only Drill asked =
     let same = ap length (sym is ∙ asked) in absurd (omega (arith, same))
 
 -- a number other than 0 is read as that of a file is

@@ -1,6 +1,7 @@
 pub mod Checking
 pub mod Closing
 pub mod Commands
+pub mod Drilling
 pub mod Filling
 pub mod Listing
 pub mod Opening

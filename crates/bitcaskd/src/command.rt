@@ -2,15 +2,17 @@
 ghost use Rattle.std.specs.Prelude.{◌≡◌, ◌↔◌, ◌<◌, [], ℕ, Some, IfSome, IsSome, length, map, string_bytes};
 ghost use Rattle.std.specs.Fmt.{decimal};
 ghost use Rattle.bitcaskd.specs.declared.command.Command.{Command};
-ghost use Rattle.bitcaskd.specs.Words.{AsksFor, IsCommand, IsCount, IsFillOf, count_words, verb_of};
+ghost use Rattle.bitcaskd.specs.Words.{AsksFor, HasDirectory, IsCount, IsFillOf, NamesDirectory, count_words, verb_of};
 
-/// What a run does with its directory.
+/// What a run does.
 #[derive(Clone, Copy, Debug, PartialEq, Eq)]
 pub enum Command {
     /// It opens a store and works on it.
     Open(Work),
     /// It writes the report of the directory.
     Check,
+    /// It runs a script, over no directory.
+    Drill,
 }
 
 /// What a run does with a store.
@@ -36,6 +38,7 @@ pub fn command_of(words: &[String]) -> Option<Command>
     ensures only { (command : Command) → AsksFor command (map string_bytes words.now) → result ≡ Some command }
 {
     match words {
+        [verb] if verb.as_str() == "drill" => Some(Command::Drill),
         [verb, dir] if !dir.is_empty() => command_named(verb.as_str()),
         [verb, dir, count] if verb.as_str() == "fill" && !dir.is_empty() => fill_of(count.as_str()),
         _ => None,
@@ -44,8 +47,10 @@ pub fn command_of(words: &[String]) -> Option<Command>
 
 // The command of two words with this verb.
 fn command_named(verb: &str) -> Option<Command>
-    ensures found { IfSome result (λ command. (verb.now ≡ verb_of command) × (count_words command ≡ [])) }
-    ensures only { (command : Command) → verb.now ≡ verb_of command → count_words command ≡ [] → result ≡ Some command }
+    ensures found { IfSome result (λ command. HasDirectory command × (verb.now ≡ verb_of command)
+        × (count_words command ≡ [])) }
+    ensures only { (command : Command) → HasDirectory command → verb.now ≡ verb_of command → count_words command ≡ []
+        → result ≡ Some command }
 {
     match verb {
         "pipe" => Some(Command::Open(Work::Pipe)),
@@ -82,14 +87,14 @@ fn count_of(text: &str) -> Option<u32>
     Some(count)
 }
 
-/// Which word is the directory, where the words are a command's.
+/// Which word is the directory, where the words are those of a command over one.
 pub fn directory_of(words: &[String]) -> Option<usize>
-    ensures command { IsSome result ↔ IsCommand (map string_bytes words.now) }
+    ensures command { IsSome result ↔ NamesDirectory (map string_bytes words.now) }
     ensures second { IsSome result → result ≡ Some 1 }
     ensures inside { IsSome result → 1 < length words.now }
 {
-    match command_of(words) {
-        Some(Command::Open(_) | Command::Check) => Some(1),
-        None => None,
+    match command_of(words)? {
+        Command::Open(_) | Command::Check => Some(1),
+        Command::Drill => None,
     }
 }

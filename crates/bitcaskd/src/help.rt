@@ -10,6 +10,7 @@ Usage:
   bitcaskd fill DIR N  puts N pairs that are made up (0 to 10000000), to try the store
   bitcaskd list DIR    prints the pairs that are live as FOLD does, sorted by their keys
   bitcaskd check DIR   reports what the data files in DIR hold
+  bitcaskd drill       runs the script on standard input over a store in memory
   bitcaskd --help      prints this text
   bitcaskd --version   prints the version
 
@@ -19,6 +20,9 @@ bitcask.toml, where there is one, has the settings.
 'fill' puts each number from 0 to N - 1 under k and the number modulo 1000, and syncs. It prints
 FILLED, N, the keys of the store, and the bytes that it appended. A fill and an opening that take
 longer than a second show how far they have come on standard error, where that is a terminal.
+
+'drill' tries what calls that fail, a power failure and several callers do. It touches no file. The
+lines of a script are in docs/DRILL.md of the sources.
 
 Requests. Numbers are decimal without leading zeros, and each line ends in a line feed.
   PUT k v    then k bytes of key (1 to 65535), v bytes of value (0 to 16777216) and a line feed.
@@ -67,7 +71,7 @@ Exit status, with its word on standard error:
                  other than pipe, or at the last sync, or is not a regular file
    4  source     standard input could not be read
    5  sink       standard output could not be written
-   6  syntax     the input has something that is no request, or ends within one
+   6  syntax     the input has something that is no request or line of a drill, or ends within one
    7  settings   bitcask.toml doesn't say settings
    8  damaged    list met a record that isn't the one that was written; its line was printed
    9  full       fill met the last number of a write or of a file; its line was printed

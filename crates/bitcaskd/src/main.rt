@@ -3,9 +3,13 @@
 //! `run` is the program; `main` gives it the words, the folder, the streams and the clock.
 #![tactic(auto)]
 
+ghost use Rattle.std.specs.Prelude.{IsTrue};
+ghost use Rattle.bk_load.specs.Tidying.{NoneLent};
+
 mod checking;
 mod closing;
 mod command;
+mod drilling;
 mod filling;
 mod help;
 mod listing;
@@ -17,6 +21,8 @@ mod run;
 mod tests;
 
 use bk_base::{Memory, Status};
+use bk_disk::Disk;
+use bk_memdisk::MemDisk;
 use bk_osdisk::{OsClock, OsDisk, OsRefused, OsSink, OsSource};
 use bk_progress::Progress;
 use command::directory_of;
@@ -35,7 +41,7 @@ fn main(rt: HostRuntime) -> ExitCode {
         [word] if word.as_str() == "--version" => ended(rt, print(rt, help::VERSION)),
         words => match directory_of(words) {
             Some(place) if place < words.len() => over_folder(rt, words, words[place].as_str()),
-            _ => ended(rt, Status::Words),
+            _ => ended(rt, over_disk(rt, words, MemDisk::new(rt.alloc()))),
         },
     }
 }
@@ -56,10 +62,17 @@ fn words_of(rt: HostRuntime) -> Result<Vec<String>, Memory> {
 }
 
 fn over_folder(rt: HostRuntime, words: &[String], dir: &str) -> ExitCode {
-    let disk = match OsDisk::new(rt, dir) {
-        Ok(disk) => disk,
-        Err(refused) => return refused_folder(rt, refused),
-    };
+    match OsDisk::new(rt, dir) {
+        Ok(disk) => ended(rt, over_disk(rt, words, disk)),
+        Err(refused) => refused_folder(rt, refused),
+    }
+}
+
+/// Runs the words over a disk and what is the system's. Where they name no folder the disk is an empty one in memory,
+/// which isn't touched.
+fn over_disk<D: Disk + Drop>(rt: HostRuntime, words: &[String], disk: D) -> Status
+    requires { IsTrue D.tells → NoneLent (D.told disk).fronts }
+{
     let (mut source, mut sink, mut clock) = (OsSource::new(rt), OsSink::new(rt), OsClock::new(rt));
     let mut progress = ProgressLine::new(rt);
     let Ended { disk: _, status } = run(
@@ -73,7 +86,7 @@ fn over_folder(rt: HostRuntime, words: &[String], dir: &str) -> ExitCode {
     );
     // An opening that failed is left here.
     progress.finished();
-    ended(rt, status)
+    status
 }
 
 /// Prints a text; a write that fails is the output's fault.

@@ -6,12 +6,13 @@ ghost use Rattle.bk_load.specs.Tidying.{NoneLent};
 ghost use Rattle.bitcaskd.specs.Commands.{Does, MayEnd, Works};
 ghost use Rattle.bitcaskd.specs.Opening.{IsRested, Opens};
 ghost use Rattle.bitcaskd.specs.Run.{Refuses, outside, telling};
-ghost use Rattle.bitcaskd.specs.Words.{AsksFor, IsCommand};
+ghost use Rattle.bitcaskd.specs.Words.{AsksFor, IsCommand, NamesDirectory};
 ghost use Rattle.bitcaskd.specs.declared.command.Command.{Command};
 ghost use Rattle.bitcaskd.specs.declared.command.Command.TheVariants.{Open};
 
 use crate::checking::check;
 use crate::command::{Command, Work, command_of};
+use crate::drilling::run_script;
 use crate::filling::fill_store;
 use crate::listing::list_store;
 use crate::opening::open_store;
@@ -103,12 +104,12 @@ pub fn run<D: Disk, S: Source, K: Sink, C: Clock, P: Progress>(
 ) -> Ended<D>
     requires { IsTrue D.tells → NoneLent (D.told disk).fronts }
 
-    // Words that aren't those of a command are refused before anything is touched.
+    // Words that aren't those of a command are refused before anything is touched. A drill touches the streams alone.
     ensures words { ¬ (IsCommand (map string_bytes words.now)) → result.status ≡ Status.Words }
-    ensures disk_same { ¬ (IsCommand (map string_bytes words.now)) → result.disk ≡ disk }
+    ensures disk_same { ¬ (NamesDirectory (map string_bytes words.now)) → result.disk ≡ disk }
     ensures source_same { ¬ (IsCommand (map string_bytes words.now)) → source.new ≡ source.old }
     ensures sink_same { ¬ (IsCommand (map string_bytes words.now)) → sink.new ≡ sink.old }
-    ensures clock_same { ¬ (IsCommand (map string_bytes words.now)) → clock.new ≡ clock.old }
+    ensures clock_same { ¬ (NamesDirectory (map string_bytes words.now)) → clock.new ≡ clock.old }
 
     // Otherwise the directory isn't opened, or the run does what the command says.
     ensures ran { let tells = telling D.tells S.tells K.tells C.tells in
@@ -130,6 +131,10 @@ pub fn run<D: Disk, S: Source, K: Sink, C: Clock, P: Progress>(
     match command_of(words) {
         Some(Command::Open(work)) => over_disk(alloc, work, disk, source, sink, clock, progress),
         Some(Command::Check) => check(alloc, disk, sink, progress),
+        Some(Command::Drill) => Ended {
+            disk,
+            status: run_script(alloc, source, sink),
+        },
         None => Ended {
             disk,
             status: Status::Words,

@@ -449,3 +449,14 @@ fn a_list(rt: HostRuntime) -> Result<(), Fail> {
     assert!(rt; left.is(b"PAIR 1 1\na1\nPAIR 1 1\nb2\nEND 2\n", Status::Done));
     Ok(())
 }
+
+#[test]
+fn a_drill(rt: HostRuntime) -> Result<(), Fail> {
+    let script = b"a put x 1\nstop all\na get x\na read\n".to_vec(rt.alloc())?;
+    let source = MemSource::new(script, None, 7);
+    let sink = MemSink::new(rt.alloc(), 1_000, None).expect(&rt, "memory");
+    let disk = MemDisk::new(rt.alloc());
+    let left = run_of(rt.alloc(), &["drill"], disk, source, sink)?;
+    assert!(rt; left.is(b"OK 1\nREOPENED 1 1 0\nLOAN\nVALUE 1\n", Status::Done));
+    Ok(())
+}

@@ -1,6 +1,9 @@
-use Rattle.std.proofs.Common.{◌∙◌, map, string_bytes, sym}
+use Rattle.std.proofs.Common.{◌∙◌, map, string_bytes, subst, sym}
+use Rattle.bitcaskd.specs.Commands.{MayEnd}
 use Rattle.bitcaskd.specs.Run.{Outside, Telling, outside, telling}
 use Rattle.bitcaskd.proofs.CheckingLaws.{check_disk, check_ends, check_sink, check_source}
+use Rattle.bitcaskd.specs.declared.command.Command.{Command}
+use Rattle.bitcaskd.proofs.DrillingLaws.{no_disk}
 use Rattle.bitcaskd.proofs.WordLaws.{none_asked, one_command}
 use Rattle.bitcaskd.proofs.run.run.Goals as goal
 
@@ -74,7 +77,18 @@ returns-in-None-clause-ran g c = λ command asked.
 
 pub returns-in-None-clause-ends : goal.returns-in-None-clause-ends
 returns-in-None-clause-ends g c = λ command asked.
-    none_asked c.command_of.result (map string_bytes c.args.words.now) command c.in-None.is c.command_of.ensures.only asked
+    absurd (none_asked c.command_of.result (map string_bytes c.args.words.now) command c.in-None.is
+    c.command_of.ensures.only asked)
+
+pub returns-in-Some-Drill-clause-ends : goal.returns-in-Some-Drill-clause-ends
+returns-in-Some-Drill-clause-ends g c = λ command asked.
+    let one =
+    one_command c.command_of.result (map string_bytes c.args.words.now) c.in-Some-Drill.field-0 command c.in-Some-Drill.is
+    c.command_of.ensures.only asked in
+    subst (λ (which : Command). MayEnd which c.run_script.result) (sym c.in-Some-Drill.field-0-is ∙ one) c.run_script.ensures.ends
+
+pub returns-in-Some-Drill-clause-disk : goal.returns-in-Some-Drill-clause-disk
+returns-in-Some-Drill-clause-disk g c = λ is. absurd (no_disk c.run_script.result c.run_script.ensures.ends is)
 
 pub returns-in-Some-Open-clause-ran : goal.returns-in-Some-Open-clause-ran
 returns-in-Some-Open-clause-ran g c = λ command asked.
