@@ -30,6 +30,3 @@ pub use rows::{Row, RowState};
 pub use statuses::{SessionEnd, Status};
 pub use values::{Value, ValueLength};
 pub use writes::{Body, Version, Write};
-
-#[cfg(test)]
-mod tests;

@@ -10,8 +10,6 @@ ghost use Rattle.bk_crc.specs.Crc.{crc_of};
 mod piecewise;
 mod register;
 mod slices;
-#[cfg(test)]
-mod tests;
 
 pub use piecewise::Running;
 

@@ -11,8 +11,6 @@ mod errors;
 mod outs;
 mod sinks;
 mod sources;
-#[cfg(test)]
-mod tests;
 mod views;
 
 pub use bk_base::Memory;

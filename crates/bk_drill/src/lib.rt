@@ -17,6 +17,3 @@ mod writes;
 
 pub use ends::DrillEnd;
 pub use running::drill;
-
-#[cfg(test)]
-mod tests;

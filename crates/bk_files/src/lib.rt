@@ -11,8 +11,3 @@ pub use catalog::{Active, Catalog};
 pub use errors::RollError;
 pub use files::Files;
 pub use scan::{Found, FoundKey, Scan, ScanError, first_records, records_go_on};
-
-#[cfg(test)]
-mod scan_tests;
-#[cfg(test)]
-mod tests;

@@ -6,8 +6,6 @@ mod filling;
 mod lines;
 mod pairs;
 mod putting;
-#[cfg(test)]
-mod tests;
 mod work;
 
 pub use ends::FillEnd;

@@ -18,6 +18,3 @@ pub use laws::{
 pub use reading::HintIn;
 pub use rows::HintRow;
 pub use writing::HintOut;
-
-#[cfg(test)]
-mod tests;

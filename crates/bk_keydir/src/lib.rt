@@ -10,6 +10,3 @@ mod slots;
 pub use keydir::{Keydir, Swept};
 pub use loads::{HintNote, Loaded, Report, Torn};
 pub use slots::{FullFolds, Slot};
-
-#[cfg(test)]
-mod tests;

@@ -7,6 +7,3 @@ mod winners;
 
 pub use expiry::live;
 pub use winners::{superseded, value_at, winner};
-
-#[cfg(test)]
-mod tests;

@@ -5,7 +5,5 @@ mod ending;
 mod gathering;
 mod lists;
 mod printing;
-#[cfg(test)]
-mod tests;
 
 pub use lists::{ListEnd, list};

@@ -25,6 +25,3 @@ pub use laws::{recovery_keeps_log, synced_lends_nothing};
 pub use opening::open;
 pub use recovery::recover;
 pub use settings_file::settings;
-
-#[cfg(test)]
-mod tests;

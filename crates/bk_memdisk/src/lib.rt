@@ -23,6 +23,3 @@ pub use plans::Plan;
 pub use sinks::MemSink;
 pub use sources::MemSource;
 pub use views::MemView;
-
-#[cfg(test)]
-mod tests;

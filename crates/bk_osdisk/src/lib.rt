@@ -16,8 +16,6 @@ mod outs;
 mod sinks;
 mod sources;
 mod syncs;
-#[cfg(test)]
-mod tests;
 mod views;
 
 pub use clocks::OsClock;

@@ -11,6 +11,3 @@ pub use dead::due;
 pub use errors::SettingsError;
 pub use names::SettingName;
 pub use settings::Settings;
-
-#[cfg(test)]
-mod tests;

@@ -10,6 +10,3 @@ pub use decoding::{Decoded, DecodedKey, Stop, decode, decode_key};
 pub use encoding::encode;
 pub use header::Header;
 pub use laws::{header_says, one_list_of_records, one_record, one_stop};
-
-#[cfg(test)]
-mod tests;

@@ -10,6 +10,3 @@ mod report;
 pub use directory::report_directory;
 pub use errors::ReportError;
 pub use report::write_report;
-
-#[cfg(test)]
-mod tests;

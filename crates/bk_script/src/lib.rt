@@ -24,6 +24,3 @@ pub use lines::{Action, Line};
 pub use printed::Printed;
 pub use reader::{Next, Reader};
 pub use writing::write_line;
-
-#[cfg(test)]
-mod tests;

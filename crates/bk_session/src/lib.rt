@@ -11,8 +11,6 @@ mod sending;
 mod serving;
 mod sessions;
 mod syncs;
-#[cfg(test)]
-mod tests;
 
 pub use outbox::{Outbox, Unread, Unsent};
 pub use sessions::session;

@@ -12,8 +12,6 @@ mod prepared;
 mod puts;
 mod store;
 mod sweeps;
-#[cfg(test)]
-mod tests;
 mod writing;
 
 pub use bk_keydir::{FullFolds, Swept};

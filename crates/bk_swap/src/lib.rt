@@ -10,6 +10,3 @@ pub use decoding::decode;
 pub use encoding::encode;
 pub use laws::{one_stop, one_swap_list};
 pub use lists::{Swap, SwapStop};
-
-#[cfg(test)]
-mod tests;

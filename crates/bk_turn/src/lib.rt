@@ -16,8 +16,6 @@ mod seats;
 mod sharing;
 mod stands;
 mod steps;
-#[cfg(test)]
-mod tests;
 mod turns;
 mod views;
 

@@ -18,8 +18,3 @@ pub use laws::{one_answer, one_reading, one_reply, one_request, read_back};
 pub use reader::{Next, Reader};
 pub use replies::{write_pair_header, write_reply, write_value_header};
 pub use reply_reader::{ReadReply, ReplyStop, read_reply};
-
-#[cfg(test)]
-mod reply_tests;
-#[cfg(test)]
-mod tests;

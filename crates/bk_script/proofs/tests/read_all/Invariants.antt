@@ -1,9 +1,0 @@
-use Rattle.std.proofs.Common.{◌≡◌, length}
-use Rattle.bk_script.specs.Script.{taken}
-use Rattle.bk_script.proofs.tests.read_all.Given as goal
-
-abbrev pub invariant-lines : goal.invariant-lines
-invariant-lines l = (taken l.reader ≡ taken l.initial.reader) × (l.reader.most ≡ l.initial.reader.most)
-
-abbrev pub decreases-lines : goal.decreases-lines
-decreases-lines l = length l.reader.rest

@@ -1,5 +1,0 @@
-use Rattle.bk_base.specs.Blanks.{blank_opening}
-use Rattle.bk_turn.proofs.tests.opened.Given as goal
-
-abbrev pub ghost-new : goal.ghost-new
-ghost-new g a = blank_opening

@@ -1,0 +1,5 @@
+//! The tests of the turn.
+#![tactic(auto)]
+
+#[cfg(test)]
+mod turn;
