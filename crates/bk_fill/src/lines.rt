@@ -1,6 +1,5 @@
 //! The line at the end of a fill.
-ghost use Rattle.std.specs.Prelude.{◌≡◌, ◌≤◌, ◌<◌, ◌++◌, ℕ, List, IfOk, OnOk, length};
-ghost use Rattle.std.specs.Fmt.{decimal};
+ghost use Rattle.std.specs.Prelude.{◌≡◌, ◌≤◌, ◌<◌, ◌++◌, ℕ, List, IfOk, length};
 ghost use Rattle.bk_disk.specs.Causes.{Rose};
 ghost use Rattle.bk_laws.specs.Wire.{reply_text};
 ghost use Rattle.bk_base.specs.declared.requests.Reply.TheVariants.{Full as full_line};
@@ -11,7 +10,7 @@ use crate::work::Work;
 use bk_base::{Full, Memory, Reply};
 use bk_disk::{Sink, write_all};
 use bk_store::PutError;
-use bk_wire::{Digits, write_reply};
+use bk_wire::{NUMBER_ROOM, append, append_number, reserve, write_reply};
 use std::alloc::Global;
 
 /// Writes the line that is due, and says how the fill ended.
@@ -61,21 +60,12 @@ fn filled_text(alloc: Global, count: u32, keys: u64, bytes: u64) -> Result<Vec<u
     ensures { IfOk result (λ text. text.items ≡ filled_line count keys bytes) }
 {
     let mut text = Vec::new(alloc);
-    append_number(&mut text, b"FILLED ", count.into())?;
-    append_number(&mut text, b" ", keys)?;
-    append_number(&mut text, b" ", bytes)?;
-    text.push(b'\n')?;
+    reserve(&mut text, 7 + NUMBER_ROOM + NUMBER_ROOM + NUMBER_ROOM)?;
+    append_number(&mut text, b"FILLED ", count.into());
+    append_number(&mut text, b" ", keys.into());
+    append_number(&mut text, b" ", bytes.into());
+    append(&mut text, b"\n");
     Ok(text)
-}
-
-/// Appends some bytes and the digits of a number.
-#[tactic(auto, using(std::proofs::lemmas::List::append_assoc))]
-fn append_number(text: &mut Vec<u8>, front: &[u8], number: u64) -> Result<(), Memory>
-    ensures { OnOk result (text.new.items ≡ text.old.items ++ (front.now ++ decimal number)) }
-{
-    text.extend_from_slice(front)?;
-    text.extend_from_slice(Digits::of(number.into()).as_slice())?;
-    Ok(())
 }
 
 /// The line of a fill for which a seq or a file was missing.

@@ -1,5 +1,5 @@
 -- The wire grammar: the texts of requests and of replies, and what stands at the front of a stream.
-use Rattle.std.specs.Prelude.{◌≡◌, ℕ, zero, suc, ◌+◌, ◌/◌, ◌%◌, ◌^◌, ◌<◌, List, [], ◌∷◌, ◌++◌, length, false, codes}
+use Rattle.std.specs.Prelude.{◌≡◌, ℕ, zero, suc, ◌/◌, ◌%◌, ◌^◌, ◌<◌, List, [], ◌∷◌, ◌++◌, length, false, codes}
 use Rattle.std.specs.Fmt.{decimal, digit_glyph}
 use Rattle.bk_base.specs.Bounds.{AreBytes, IsKey, IsValue}
 use Rattle.bk_base.specs.declared.requests.Request.{Request}

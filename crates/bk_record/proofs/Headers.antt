@@ -1,14 +1,10 @@
 -- The header of a record says the write's numbers.
-use Rattle.std.proofs.Common.{◌≡◌, ℕ, ◌^◌, ◌<◌, ◌≤◌, List, ◌++◌, length, arith}
-use Rattle.std.specs.Int.{w16, w32, w64, to_be_bytes}
+use Rattle.std.proofs.Common.{◌≡◌, ℕ, ◌≤◌, List, ◌++◌, length, arith}
 use Rattle.std.proofs.lemmas.Nat.{from_be_bytes-to_be_bytes_2, from_be_bytes-to_be_bytes_4, from_be_bytes-to_be_bytes_8}
-use Rattle.bk_base.specs.Bounds.{AreBytes}
-use Rattle.bk_base.specs.declared.limits.TheConstants.{LONGEST_KEY, LONGEST_VALUE}
+use Rattle.bk_base.specs.declared.limits.TheConstants.{LONGEST_KEY}
 use Rattle.bk_base.specs.declared.writes.Write.{Write}
-use Rattle.bk_base.specs.declared.writes.Body.{Body}
-use Rattle.bk_base.specs.declared.writes.Body.TheVariants.{Put, Gone}
 use Rattle.bk_laws.proofs.RecordBytes.{checksum_of-lt, field_fits}
-use Rattle.bk_laws.specs.Record.{IsWritable, FitsBody, checksum_of, covered_of, fields_of, record_of, value_field, value_of}
+use Rattle.bk_laws.specs.Record.{IsWritable, checksum_of, covered_of, fields_of, record_of, value_field}
 use Rattle.bk_record.specs.Header.{header_of}
 
 -- what the header of a record says

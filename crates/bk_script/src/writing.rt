@@ -3,11 +3,11 @@ ghost use Rattle.std.specs.Prelude.{◌≡◌, ◌≤◌, ◌++◌, ◌∷◌, l
 ghost use Rattle.bk_laws.specs.Wire.{line, numbered, and_number, reply_text};
 ghost use Rattle.bk_script.specs.Printed.{printed_text, value_word};
 
-use crate::appending::{NUMBER, append, append_number, append_value, reserve};
+use crate::appending::append_value;
 use crate::printed::Printed;
 use bk_base::limits::{LONGEST_KEY, LONGEST_VALUE};
 use bk_base::{FileId, Memory, Reply, Seq};
-use bk_wire::write_reply;
+use bk_wire::{NUMBER_ROOM, append, append_number, reserve, write_reply};
 
 /// Appends a line that a drill prints. Out of memory, `out` is as it was.
 #[tactic(auto, unfolding(crate::specs::Printed::printed_text, bk_laws::specs::Wire::reply_text))]
@@ -99,9 +99,9 @@ fn write_fold(out: &mut Vec<u8>, slot: u8, epoch: Seq) -> Result<(), Memory>
         ≡ out.old.items ++ line (and_number (numbered (codes "FOLD ") slot) epoch.0)) }
     ensures err { OnErr result (out.new.items ≡ out.old.items) }
 {
-    reserve(out, 5 + NUMBER + NUMBER)?;
+    reserve(out, 5 + NUMBER_ROOM + NUMBER_ROOM)?;
     append_number(out, b"FOLD ", slot.into());
-    append_number(out, b" ", epoch.0);
+    append_number(out, b" ", epoch.0.into());
     append(out, b"\n");
     Ok(())
 }
@@ -112,7 +112,7 @@ fn write_no_fold(out: &mut Vec<u8>, slot: u8) -> Result<(), Memory>
     ensures ok { OnOk result (out.new.items ≡ out.old.items ++ line (numbered (codes "NOFOLD ") slot)) }
     ensures err { OnErr result (out.new.items ≡ out.old.items) }
 {
-    reserve(out, 7 + NUMBER)?;
+    reserve(out, 7 + NUMBER_ROOM)?;
     append_number(out, b"NOFOLD ", slot.into());
     append(out, b"\n");
     Ok(())
@@ -125,10 +125,10 @@ fn write_reopened(out: &mut Vec<u8>, seq: Seq, keys: u64, torn: u64) -> Result<(
         ++ line (and_number (and_number (numbered (codes "REOPENED ") seq.0) keys) torn)) }
     ensures err { OnErr result (out.new.items ≡ out.old.items) }
 {
-    reserve(out, 9 + NUMBER + NUMBER + NUMBER)?;
-    append_number(out, b"REOPENED ", seq.0);
-    append_number(out, b" ", keys);
-    append_number(out, b" ", torn);
+    reserve(out, 9 + NUMBER_ROOM + NUMBER_ROOM + NUMBER_ROOM)?;
+    append_number(out, b"REOPENED ", seq.0.into());
+    append_number(out, b" ", keys.into());
+    append_number(out, b" ", torn.into());
     append(out, b"\n");
     Ok(())
 }
@@ -140,10 +140,10 @@ fn write_torn(out: &mut Vec<u8>, file: FileId, at: u64, bytes: u64) -> Result<()
         ++ line (and_number (and_number (numbered (codes "TORN ") file.0) at) bytes)) }
     ensures err { OnErr result (out.new.items ≡ out.old.items) }
 {
-    reserve(out, 5 + NUMBER + NUMBER + NUMBER)?;
+    reserve(out, 5 + NUMBER_ROOM + NUMBER_ROOM + NUMBER_ROOM)?;
     append_number(out, b"TORN ", file.0.into());
-    append_number(out, b" ", at);
-    append_number(out, b" ", bytes);
+    append_number(out, b" ", at.into());
+    append_number(out, b" ", bytes.into());
     append(out, b"\n");
     Ok(())
 }

@@ -1,6 +1,7 @@
 //! The wire protocol: a reader of requests that come in any pieces, and replies, written and read.
 #![tactic(auto)]
 
+mod appending;
 mod digits;
 mod fields;
 mod laws;
@@ -13,6 +14,7 @@ mod requests;
 mod stops;
 mod words;
 
+pub use appending::{NUMBER_ROOM, append, append_number, reserve};
 pub use digits::{Digits, hex};
 pub use laws::{one_answer, one_reading, one_reply, one_request, read_back};
 pub use reader::{Next, Reader};

@@ -1,43 +1,10 @@
 //! The texts of replies.
-ghost use Rattle.std.specs.Prelude.{◌≡◌, ◌+◌, ◌≤◌, ◌++◌, ◌∷◌, [], length, OnOk, OnErr, codes, vec_len, vec_capacity};
-ghost use Rattle.std.specs.Fmt.{decimal};
+ghost use Rattle.std.specs.Prelude.{◌≡◌, ◌≤◌, ◌++◌, ◌∷◌, [], length, OnOk, OnErr, codes};
 ghost use Rattle.bk_laws.specs.Wire.{line, numbered, and_hex, and_number, full_word, reply_text, FitsReply};
 
-use crate::digits::{Digits, hex};
+use crate::appending::{NUMBER_ROOM, append, append_number, reserve};
+use crate::digits::hex;
 use bk_base::{FileId, Full, Key, Memory, Reply, Seq};
-
-/// How many bytes a number and the byte behind it have at the most.
-const NUMBER: usize = 40;
-
-/// Appends within the capacity.
-fn append(out: &mut Vec<u8>, bytes: &[u8])
-    requires { vec_len out.old + length bytes.now ≤ vec_capacity out.old }
-    ensures items { out.new.items ≡ out.old.items ++ bytes.now }
-    ensures len { vec_len out.new ≡ vec_len out.old + length bytes.now }
-    ensures capacity { vec_capacity out.old ≤ vec_capacity out.new }
-{
-    out.extend_from_slice(bytes).unwrap();
-}
-
-/// Appends some bytes and the digits of a number, within the capacity.
-#[tactic(auto, using(std::proofs::lemmas::List::append_assoc))]
-fn append_number(out: &mut Vec<u8>, front: &[u8], number: u128)
-    requires { vec_len out.old + (length front.now + 39) ≤ vec_capacity out.old }
-    ensures items { out.new.items ≡ out.old.items ++ (front.now ++ decimal number) }
-    ensures len { vec_len out.new ≤ vec_len out.old + (length front.now + 39) }
-    ensures capacity { vec_capacity out.old ≤ vec_capacity out.new }
-{
-    append(out, front);
-    append(out, Digits::of(number).as_slice());
-}
-
-/// Makes room for this many more bytes.
-fn reserve(out: &mut Vec<u8>, len: usize) -> Result<(), Memory>
-    ensures items { out.new.items ≡ out.old.items }
-    ensures ok { OnOk result (vec_len out.new + len ≤ vec_capacity out.new) }
-{
-    out.reserve(len).map_err(|_| Memory)
-}
 
 /// Writes a text that is always the same.
 fn write_text(out: &mut Vec<u8>, text: &[u8]) -> Result<(), Memory>
@@ -56,7 +23,7 @@ fn write_number(out: &mut Vec<u8>, word: &[u8], number: u128) -> Result<(), Memo
     ensures ok { OnOk result (out.new.items ≡ out.old.items ++ line (numbered word.now number)) }
     ensures err { OnErr result (out.new.items ≡ out.old.items) }
 {
-    reserve(out, word.len() + NUMBER)?;
+    reserve(out, word.len() + NUMBER_ROOM)?;
     append_number(out, word, number);
     append(out, b"\n");
     Ok(())
@@ -71,7 +38,7 @@ fn write_piece(out: &mut Vec<u8>, word: &[u8], bytes: &[u8]) -> Result<(), Memor
         ≡ out.old.items ++ (line (numbered word.now (length bytes.now)) ++ line bytes.now)) }
     ensures err { OnErr result (out.new.items ≡ out.old.items) }
 {
-    reserve(out, word.len() + NUMBER + bytes.len() + 1)?;
+    reserve(out, word.len() + NUMBER_ROOM + bytes.len() + 1)?;
     append_number(out, word, bytes.len() as u128);
     append(out, b"\n");
     append(out, bytes);
@@ -88,7 +55,10 @@ fn write_pair(out: &mut Vec<u8>, key: &[u8], value: &[u8]) -> Result<(), Memory>
         ++ line (key.now ++ value.now))) }
     ensures err { OnErr result (out.new.items ≡ out.old.items) }
 {
-    reserve(out, 5 + NUMBER + NUMBER + key.len() + value.len() + 1)?;
+    reserve(
+        out,
+        5 + NUMBER_ROOM + NUMBER_ROOM + key.len() + value.len() + 1,
+    )?;
     append_number(out, b"PAIR ", key.len() as u128);
     append_number(out, b" ", value.len() as u128);
     append(out, b"\n");
@@ -114,7 +84,7 @@ pub fn write_pair_header(key: &Key, value_len: usize, out: &mut Vec<u8>) -> Resu
     ensures err { OnErr result (out.new.items ≡ out.old.items) }
 {
     let key = key.bytes();
-    reserve(out, 5 + NUMBER + NUMBER + key.len())?;
+    reserve(out, 5 + NUMBER_ROOM + NUMBER_ROOM + key.len())?;
     append_number(out, b"PAIR ", key.len() as u128);
     append_number(out, b" ", value_len as u128);
     append(out, b"\n");
@@ -129,7 +99,7 @@ fn write_merged(out: &mut Vec<u8>, inputs: u32, outputs: u32) -> Result<(), Memo
         ≡ out.old.items ++ line (and_number (numbered (codes "MERGED ") inputs) outputs)) }
     ensures err { OnErr result (out.new.items ≡ out.old.items) }
 {
-    reserve(out, 7 + NUMBER + NUMBER)?;
+    reserve(out, 7 + NUMBER_ROOM + NUMBER_ROOM)?;
     append_number(out, b"MERGED ", inputs.into());
     append_number(out, b" ", outputs.into());
     append(out, b"\n");
@@ -143,7 +113,7 @@ fn write_cut(out: &mut Vec<u8>, file: u32, total: u64, at: u64) -> Result<(), Me
         ≡ out.old.items ++ line (and_number (and_number (numbered (codes "CUT ") file) total) at)) }
     ensures err { OnErr result (out.new.items ≡ out.old.items) }
 {
-    reserve(out, 4 + NUMBER + NUMBER + NUMBER)?;
+    reserve(out, 4 + NUMBER_ROOM + NUMBER_ROOM + NUMBER_ROOM)?;
     append_number(out, b"CUT ", file.into());
     append_number(out, b" ", total.into());
     append_number(out, b" ", at.into());
@@ -164,7 +134,10 @@ fn write_stat(
         (and_number (and_number (and_number (numbered (codes "STAT ") keys) files) total) live)) }
     ensures err { OnErr result (out.new.items ≡ out.old.items) }
 {
-    reserve(out, 5 + NUMBER + NUMBER + NUMBER + NUMBER)?;
+    reserve(
+        out,
+        5 + NUMBER_ROOM + NUMBER_ROOM + NUMBER_ROOM + NUMBER_ROOM,
+    )?;
     append_number(out, b"STAT ", keys.into());
     append_number(out, b" ", files.into());
     append_number(out, b" ", total);
@@ -180,7 +153,7 @@ fn write_damaged(out: &mut Vec<u8>, file: u32, at: u64, kept: u32, found: u32) -
         (and_hex (and_hex (and_number (numbered (codes "DAMAGED ") file) at) kept) found)) }
     ensures err { OnErr result (out.new.items ≡ out.old.items) }
 {
-    reserve(out, 8 + NUMBER + NUMBER + 9 + 9 + 1)?;
+    reserve(out, 8 + NUMBER_ROOM + NUMBER_ROOM + 9 + 9 + 1)?;
     append_number(out, b"DAMAGED ", file.into());
     append_number(out, b" ", at.into());
     append(out, b" ");
