@@ -20,7 +20,8 @@ use Rattle.bitcaskd.specs.Opening.{IsCauseOf, IsRefused, SaysSettings}
 use Rattle.bitcaskd.specs.Run.{Outside, Telling, seen_in}
 use Rattle.bitcaskd.specs.declared.command.Command.{Command}
 use Rattle.bitcaskd.specs.declared.command.Command.TheVariants.{Check}
-use Rattle.bitcaskd.proofs.OpeningLaws.{keeps_log, Rose-further}
+use Rattle.bitcaskd.proofs.OpeningLaws.{keeps_log}
+use Rattle.bk_store.proofs.AppendExits.{rose_since}
 
 -- ---- a directory that wasn't recovered
 
@@ -104,8 +105,8 @@ module _ (tells : Telling) (old new : Outside) (mid : Seen) where
   ends_as : (r : Result Unit ReportError) → Reported tells old new mid r → IsEndOf (of_report r) tells old new
   ends_as (Ok done) is = λ t. (is.settings, is.says t)
   ends_as (Err report_sink) is = is.sink refl
-  ends_as (Err report_disk) is = inl (Rose-further old.faults mid.faults new.faults is.before.faults (is.disk refl))
-  ends_as (Err report_read) is = inr (Rose-further old.views mid.views new.views is.before.views (is.read refl))
+  ends_as (Err report_disk) is = inl (rose_since old.faults mid.faults new.faults is.before.faults (is.disk refl))
+  ends_as (Err report_read) is = inr (rose_since old.views mid.views new.views is.before.views (is.read refl))
   ends_as (Err report_memory) is = tt
 
   pub reported_checks : (r : Result Unit ReportError) → Reported tells old new mid r → (IsTrue tells.disk → IsWell new.told)

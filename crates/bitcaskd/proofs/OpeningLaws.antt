@@ -32,6 +32,7 @@ use Rattle.bitcaskd.specs.Commands.{MayEnd}
 use Rattle.bitcaskd.specs.Run.{OpensAt}
 use Rattle.bitcaskd.specs.declared.command.Command.TheVariants.{Open}
 use Rattle.bitcaskd.specs.declared.command.Work.{Work}
+use Rattle.bk_store.proofs.AppendExits.{rose_since}
 
 -- ---- crashes
 
@@ -55,9 +56,6 @@ keeps_log t u log goes well sound = record {
 }
 
 -- ---- what the calls of an opening make of a disk
-
-pub Rose-further : (first before now : ℕ) → first ≤ before → Rose before now → Rose first now
-Rose-further first before now early rose = omega arith
 
 pub settings_came : (tells : Bool) (was now : Seen) (len : ℕ) (r : Result StoreSettings LoadSettings) → Loads was now r
     → (IsTrue tells → AsksOnly settings_file len was.told now.told) → Came tells was now
@@ -108,11 +106,11 @@ no_settings tells was now settings_memory came loads says = record { cause = tt;
 pub not_opened : (tells : Bool) (was now last : Seen) (e : OpenError) → Came tells was now
     → Course {T = Unit {0}} tells now last (Err e) → IsRefused tells was last (of_open e)
 not_opened tells was now last open_disk before course = record {
-  cause = inl (Rose-further was.faults now.faults last.faults before.faults (course.disk refl));
+  cause = inl (rose_since was.faults now.faults last.faults before.faults (course.disk refl));
   came = came_trans tells was now last before course.came;
 }
 not_opened tells was now last open_read before course = record {
-  cause = inr (Rose-further was.views now.views last.views before.views (course.read refl));
+  cause = inr (rose_since was.views now.views last.views before.views (course.read refl));
   came = came_trans tells was now last before course.came;
 }
 not_opened tells was now last open_memory before course =
@@ -124,12 +122,12 @@ not_opened tells was now last open_memory before course =
 pub rose_in_run : (tells : Bool) (was : Seen) (store : Shown) (faults : ℕ) → Opens tells was store
     → Rose store.files.faults faults → Rose was.faults faults
 rose_in_run tells was store faults opens rose =
-    Rose-further was.faults store.files.faults faults opens.came.faults rose
+    rose_since was.faults store.files.faults faults opens.came.faults rose
 
 pub views_in_run : (tells : Bool) (was : Seen) (store : Shown) (views : ℕ) → Opens tells was store
     → Rose store.files.fallible_views views → Rose was.views views
 views_in_run tells was store views opens rose =
-    Rose-further was.views store.files.fallible_views views opens.came.views rose
+    rose_since was.views store.files.fallible_views views opens.came.views rose
 
 pub refused_ends : (tells : Bool) (was now : Seen) (status : Status) → IsRefused tells was now status
     → (work : Work) → MayEnd (Open work) status

@@ -28,6 +28,7 @@ use Rattle.bitcaskd.specs.Opening.{IsRested, Opens}
 use Rattle.bitcaskd.specs.Run.{IsOpenedBy, IsRun, Outside, Telling, client_tells, most_taken, seen_in}
 use Rattle.bitcaskd.proofs.ClosingLaws.{last_step, sync_rose}
 use Rattle.bitcaskd.proofs.OpeningLaws.{opens_at}
+use Rattle.bk_store.proofs.Pasts.{past_then}
 
 -- ---- the opening
 
@@ -72,15 +73,6 @@ opened_by tells old v log false opens = record {
 }
 
 -- ---- the run
-
-past_on : (t u v : Told) → KeepsPast t u → KeepsPast u v → KeepsPast t v
-past_on t u v a b =
-    let p = a.later in
-    let q = b.later in
-    record {
-      later = omega (arith, p, q);
-      same = λ k low. b.same k (omega (arith, p, low)) ∙ a.same k low;
-    }
 
 -- what the objects show as the run ends: the store's disk, and the streams
 abbrev pub with_disk : Shown → Outside → Outside
@@ -146,7 +138,7 @@ module _ (tells : Telling) (old new : Outside) (v m u : Shown) (end : SessionEnd
           ended = clock m.files.told;
           opens = opens_at old.told v.files.told u.files.told o.log (opens.came.goes (sub t))
               (subst (λ (l : List Write). IsSoundDisk old.told l) (sym (is_opened.log t)) (known t).1)
-              (past_on v.files.told m.files.told u.files.told (past (sub t)) (behind (sub t)));
+              (past_then v.files.told m.files.told u.files.told (past (sub t)) (behind (sub t)));
           serves = record {
             later = (past (sub t)).later;
             within = (behind (sub t)).later;

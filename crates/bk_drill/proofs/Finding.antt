@@ -2,7 +2,7 @@
 use Rattle.std.proofs.Common.{◌≡◌, ◌∙◌, ℕ, ◌+◌, ◌-◌, ◌==◌, ◌≤◌, Bool, true, false, cond, List, [], ◌∷◌, drop, Option, Some, None}
 use Rattle.std.proofs.Common.{refl, sym, ap, subst, arith, inl, inr}
 use Rattle.std.specs.Prelude.{IsTrue, ◌≢◌, ◌⊎◌, length}
-use Rattle.std.proofs.lemmas.Bool.{cases_Bool}
+use Rattle.std.proofs.lemmas.Bool.{false_from_ne_true, cases_Bool}
 use Rattle.std.proofs.lemmas.List.{append-nil}
 use Rattle.bk_base.specs.declared.calls.Answer.TheVariants.{Done, Found, Nothing}
 use Rattle.bk_base.specs.declared.calls.Call.TheVariants.{Get as get_call, Quiet}
@@ -31,6 +31,7 @@ use Rattle.bk_drill.specs.Loans.{IsUnreadFor, loan_in, tally_in}
 use Rattle.bk_drill.specs.Shown.{IsAt, LoanIs}
 use Rattle.bk_drill.proofs.Acting.{Result, acts_once, follows_kept, listed_still, still_acts}
 use Rattle.bk_drill.proofs.Writing.{GoesBy}
+use Rattle.bk_store.proofs.Lending.{lent_checked}
 
 -- ---- get
 
@@ -86,10 +87,6 @@ loan_unread ttl now key newest l is lends =
     go : (v : Option Version) → LendsLive key v (Some l) → l.rest ≡ l.size
     go None h = absurd h
     go (Some v) h = h.rest
-
-lent_checked : (w : Option Write) (l : Lent) → LendsWrite w (Some l) → check_of l.left ≡ l.crc
-lent_checked None l h = absurd h
-lent_checked (Some w) l h = h.crc
 
 kept_of_loan : Lent → Kept
 kept_of_loan l = record { value = drop l.value_at l.left; fallible = l.fallible }
@@ -150,17 +147,13 @@ get_finds old new key who l now plan settings listed loans looks views keeps len
 abbrev pub ReadsLoan : Lent → Printed → Type 0
 ReadsLoan l line = ((value : List ℕ) × (line ≡ Value value) × (value ≡ drop l.value_at l.left)) ⊎ IsUnreadFor l line
 
-unsound : (sound : Bool) → (IsTrue sound → ⊥) → sound ≡ false
-unsound true never = absurd (never refl)
-unsound false never = refl
-
 -- why a loan couldn't be read, as a line of the drill
 pub unread_is : (b : Between) (l : Lent) (fallible : Bool) (line : Printed) → fallible ≡ l.fallible
     → (IsTrue b.sound → check_of l.left ≡ l.crc) → IsUnreadFor l line → IsUnread b fallible line
 unread_is b l fallible Memory is whole why = tt
 unread_is b l fallible Read is whole why = is ∙ why
 unread_is b l fallible (Damaged file at kept found) is whole why =
-    (why.0, unsound b.sound (λ t. why.0 (why.1 ∙ sym (whole t) ∙ sym why.2)))
+    (why.0, false_from_ne_true b.sound (λ t. why.0 (why.1 ∙ sym (whole t) ∙ sym why.2)))
 unread_is b l fallible line is whole why = absurd why
 
 unread_line : (b : Between) (fallible : Bool) (line : Printed) → IsUnread b fallible line → is_numbered line ≡ false

@@ -42,7 +42,8 @@ use Rattle.bk_store.specs.Sweeps.{last_count}
 use Rattle.bk_store.proofs.FoldOpens.{first_is_free}
 use Rattle.bk_session.specs.Following.{Follows}
 use Rattle.bk_session.proofs.Events.{Rises, Still, counts_of, is_step_of, rises_by_fault, rises_by_faults, step_of}
-use Rattle.bk_session.proofs.FoldCalls.{low_slot, owned}
+use Rattle.bk_session.proofs.FoldCalls.{owned}
+use Rattle.bk_store.proofs.FoldSteps.{slot_within}
 use Rattle.bk_session.proofs.Following.{KeepsSettings, agrees_on, closed_slots, listed_slots, opened_slots}
 use Rattle.bk_session.proofs.Reading.{RisesByView, rises_by_view, still_files}
 use Rattle.bk_drill.specs.Actions.{Acts, AreQuiet, Does, HasNoFold, IsAnswered, IsNoFold, IsRefusedFor, IsSpoilt, is_numbered, listed_by}
@@ -54,6 +55,7 @@ use Rattle.bk_drill.specs.Shown.{IsAt, LoanIs}
 use Rattle.bk_drill.proofs.Acting.{Result, acts_once, folds_after, keeps_in, listed_still, still_acts}
 use Rattle.bk_drill.proofs.Finding.{unread_is}
 use Rattle.bk_drill.proofs.Writing.{GoesBy, loans_kept}
+use Rattle.bk_session.proofs.FoldRows.{lists_pair, lends_checked}
 
 -- ---- how many pairs a fold has listed
 
@@ -272,7 +274,7 @@ pub fold_ends : (old new : Drill) (who slot n : ℕ) → GoesBy old new → new.
     → (b : Between) → IsAt old b → Result b who (Next slot) (end_line n) new
 fold_ends old new who slot n by same owner is keeps b at =
     let (s, there) = owned (slot_at old.store.keys.slots slot) who owner in
-    let low : slot < MOST_FOLDS = omega (arith, low_slot old.store.keys.slots slot s there, at.slots) in
+    let low : slot < MOST_FOLDS = omega (arith, slot_within old.store.keys.slots slot s there, at.slots) in
     let faults = new.store.files.faults - old.store.files.faults in
     let e = entry_by who (FoldNext slot) end_answer in
     still_acts old new b who (Next slot) (end_line n) (FoldNext slot) end_answer faults 0 at by.now by.plan by.settings by.loans by.listed
@@ -321,16 +323,6 @@ pub record GivesPair (who slot : ℕ) (key : List ℕ) (l : Lent) (v u : Shown) 
   pub slots : u.keys.slots ≡ slice_set v.keys.slots slot (Some x)
   pub keeps : Keeps true (entry_by who (FoldNext slot) (pair_answer key (drop l.value_at l.left))) v u
   pub checked : (o : Opening) (h : List Step) (tried : List Write) → StandsFor v o h tried → check_of l.left ≡ l.crc
-
-lists_pair : {V : Type 0} (slot : ℕ) (o : Option Slot) (v u : Shown) (row : Row2 V) → ListsIn slot o v u (Some row)
-    → (s : Slot) × (o ≡ Some s) × ListsPair slot s v u row.key row.loan
-lists_pair slot None v u row h = absurd h
-lists_pair slot (Some s) v u row h = (s, refl, h)
-
-lends_checked : {V : Type 0} (o : Option Slot) (log : List Write) (row : Row2 V) → LendsPairOf o log (Some row)
-    → check_of row.loan.left ≡ row.loan.crc
-lends_checked None log row h = absurd h
-lends_checked (Some s) log row h = h.2.crc
 
 pub gives_pair_of : {V : Type 0} (who slot : ℕ) (v u : Shown) (found : Option (Row2 V)) (row : Row2 V)
     → found ≡ Some row → ListsNext who slot v u found → v.files.faults ≤ u.files.faults
@@ -403,7 +395,7 @@ pub fold_gives : (old new : Drill) (who slot : ℕ) (key : List ℕ) (l : Lent) 
     → GivesPair who slot key l old.store new.store → ShowsPair key l line
     → (b : Between) → IsAt old b → Result b who (Next slot) line new
 fold_gives old new who slot key l line now plan settings loans listed g shows b at =
-    let within : slot < MOST_FOLDS = omega (arith, low_slot old.store.keys.slots slot g.s g.there, at.slots) in
+    let within : slot < MOST_FOLDS = omega (arith, slot_within old.store.keys.slots slot g.s g.there, at.slots) in
     let v = old.store in
     let u = new.store in
     let o = b.opening in
@@ -423,7 +415,7 @@ fold_gives old new who slot key l line now plan settings loans listed g shows b 
       agrees = agrees_on b.sound v u o h step e at.follows.agrees (counts_of b.sound e faults r.n v u r.rises) refl g.kept
           (g.seq ∙ at.follows.agrees.seq)
           (listed_slots b.sound v o h who slot key value g.s g.x u.keys.slots at.follows.agrees
-          (low_slot v.keys.slots slot g.s g.there) g.there g.slots);
+          (slot_within v.keys.slots slot g.s g.there) g.there g.slots);
       stands = λ t. keeps_in b.sound e v u g.keeps t o h b.tried step (at.follows.stands t)
           (is_step_of b.sound e faults r.n v u t r.rises) refl;
       whole = at.follows.whole;
@@ -496,7 +488,7 @@ fold_closes old new who slot now plan settings loans listed is owner keeps b at 
     (record {
       agrees = agrees_on b.sound v u o h step e at.follows.agrees (counts_of b.sound e faults 0 v u rises) refl kept
           (ap (λ (y : Shown). y.seq) is ∙ at.follows.agrees.seq)
-          (closed_slots b.sound v o h who slot u.keys.slots at.follows.agrees (low_slot v.keys.slots slot s there) slots);
+          (closed_slots b.sound v o h who slot u.keys.slots at.follows.agrees (slot_within v.keys.slots slot s there) slots);
       stands = λ t. keeps_in b.sound e v u keeps t o h b.tried step (at.follows.stands t)
           (is_step_of b.sound e faults 0 v u t rises) refl;
       whole = at.follows.whole;

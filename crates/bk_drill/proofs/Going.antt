@@ -3,7 +3,7 @@ use Rattle.std.proofs.Common.{◌≡◌, ◌∙◌, ℕ, ◌+◌, ◌<◌, ◌�
 use Rattle.std.proofs.Common.{refl, sym, ap, subst, arith, inl, inr, append_assoc, IsTrue, None, Result, Ok, Err, OnOk, ◌≢◌, lit<, rules}
 use Rattle.std.specs.Prelude.{◌||◌, not}
 use Rattle.std.specs.List.{list_any}
-use Rattle.std.proofs.Math.Bool.{or_assoc}
+use Rattle.std.proofs.Math.Bool.{or-false, or_assoc}
 use Rattle.std.proofs.Math.Seq.{drop-append_seam}
 use Rattle.std.proofs.lemmas.Bool.{true≢false}
 use Rattle.std.proofs.lemmas.List.{append-nil, flat_map_more, length-append}
@@ -32,6 +32,7 @@ use Rattle.bk_drill.specs.Progress.{IsNew, RunsAs}
 use Rattle.bk_drill.specs.Running.{ComesOn, ComesToEnd, Goes, HasCome, HasEnded, LosesPiece, RunsLine, SaysSyntax, TakesPiece}
 use Rattle.bk_drill.specs.Running.{work_left}
 use Rattle.bk_drill.specs.Shown.{IsAt}
+use Rattle.bk_session.proofs.Ways.{reads_on}
 
 -- ---- one line more
 
@@ -44,15 +45,11 @@ done_more test b (e ∷ ds) mid d done is = (done.0, done_more test e.later ds m
 abbrev pub is_other : Done → Bool
 is_other d = not (is_setting d.line)
 
-or_none : (b : Bool) → (b || false) ≡ b
-or_none true = refl
-or_none false = refl
-
 pub lines_more : (n : ℕ) (begun : Bool) (ds : List Done) (d : Done) → AreLines n begun ds
     → Fits d.line → length (line_text d.line) ≤ LONGEST_LINE → n + length ds < MOST_LINES
     → ((begun || list_any is_other ds) ≡ true → is_setting d.line ≡ false) → AreLines n begun (ds ++ d ∷ [])
 lines_more n begun [] d are fits short many first =
-    (fits, short, omega (arith, many), λ b. first (or_none begun ∙ b), tt)
+    (fits, short, omega (arith, many), λ b. first (or-false begun ∙ b), tt)
 lines_more n begun (e ∷ ds) d are fits short many first = (
   are.0,
   are.1,
@@ -76,16 +73,9 @@ script_more most ds d rest more =
     omega (arith, ap (λ (l : List ℕ). length l) (texts_more ds d), length-append (texts_of ds) (line_text d.line)) in
     let count : length ds + 1 ≡ length (ds ++ d ∷ []) = omega (arith, length-append ds (d ∷ [])) in
     let begun : (list_any is_other ds || is_other d) ≡ list_any is_other (ds ++ d ∷ []) =
-    ap (λ (b : Bool). list_any is_other ds || b) (sym (or_none (is_other d)))
+    ap (λ (b : Bool). list_any is_other ds || b) (sym (or-false (is_other d)))
     ∙ sym (list_any-append is_other ds (d ∷ [])) in
     (λ i. record { rest = more; offset = texts i; most = most; lines = count i; begun = begun i })
-
--- the input, where one more line was taken off its front
-reads_on : (input read rest text more left : List ℕ) → input ≡ (read ++ rest) ++ left
-    → rest ≡ text ++ more → input ≡ ((read ++ text) ++ more) ++ left
-reads_on input read rest text more left took stands =
-    took ∙ ap (λ (r : List ℕ). (read ++ r) ++ left) stands
-    ∙ ap (λ (l : List ℕ). l ++ left) (sym (append_assoc read text more))
 
 -- One line more was run than these.
 record HasRun (test : Test) (tells : Telling) (start : Streams) (left : List ℕ) (later : Script) (next : Drill)

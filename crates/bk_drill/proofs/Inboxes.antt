@@ -6,16 +6,7 @@ use Rattle.std.proofs.lemmas.List.{length-take-le, take-append-drop}
 use Rattle.bk_disk.specs.Streams.{Takes}
 use Rattle.bk_drill.specs.Running.{LosesPiece, TakesPiece}
 use Rattle.bk_script.specs.Script.{Script, taken}
-
--- what a read took of the source
-took_piece : (whole now_whole into : List ℕ) (before now n : ℕ) → Takes whole before now n into
-    → now_whole ≡ whole → drop before whole ≡ take n into ++ drop now now_whole
-took_piece whole now_whole into before now n took same =
-    sym (take-append-drop n (drop before whole))
-    ∙ ap (λ (l : List ℕ). l ++ drop n (drop before whole)) (sym took.bytes)
-    ∙ ap (λ (l : List ℕ). take n into ++ l)
-    (drop-drop n before whole ∙ ap (λ (m : ℕ). drop m whole) (sym took.moved)
-    ∙ ap (λ (w : List ℕ). drop now w) (sym same))
+use Rattle.bk_session.proofs.Inboxes.{took_piece}
 
 pub takes_piece : (tells : Bool) (old new : Script) (whole now_whole into : List ℕ) (before now n : ℕ)
     → new ≡ record old { rest = old.rest ++ take n into } → 0 < n → n ≤ length into

@@ -46,7 +46,7 @@ use Rattle.bk_session.specs.Following.{Agrees, Follows, snapshot_in}
 use Rattle.bk_session.proofs.ActiveRows.{last_in, needs_in}
 use Rattle.bk_session.proofs.Events.{Rises, Still, counts_of, is_step_of, rises_by_fault, rises_by_faults, step_of}
 use Rattle.bk_session.proofs.Following.{KeepsSettings, follows_still, follows_write}
-use Rattle.bk_session.proofs.Writes.{buried_none, buried_some, settings_kept}
+use Rattle.bk_session.proofs.Writes.{write_at, buried_none, buried_some, settings_kept}
 use Rattle.bk_drill.specs.Actions.{AreQuiet, Does, HasNoFile, IsRefusedFor, Tries, asks_disk, call_of, is_writing, size_asked, write_asked}
 use Rattle.bk_drill.specs.Actions.{IsAnswered, line_of, write_of, xs}
 use Rattle.bk_drill.specs.Actions.{Keeps as KeepsLoans}
@@ -196,9 +196,6 @@ refused_acts old new b who action w e at by rest error refuses size writing disk
     (listed_still old b step q (tally_in new.tallies) at by.listed refl refl)
 
 -- ---- put
-
-pub write_at : ℕ → Moment → List ℕ → Body → Write
-write_at n now key body = record { seq = record { 0 = n }; moment = now; key = key; body = body }
 
 next_is : (old : Drill) (b : Between) (key : List ℕ) (body : Body) → IsAt old b
     → next_write old.store old.now key body ∷ [] ≡ write_at (last_seq (log_at b) + 1) b.moment key body ∷ []

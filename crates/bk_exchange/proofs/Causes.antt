@@ -125,7 +125,7 @@ caused c p x lines line is lines_are refusal =
 
 -- ---- counts
 
-last-append : (lines : List Reply) (line : Reply) → last_of (lines ++ line ∷ []) ≡ Some line
+pub last-append : (lines : List Reply) (line : Reply) → last_of (lines ++ line ∷ []) ≡ Some line
 last-append [] line = refl
 last-append (first ∷ []) line = refl
 last-append (first ∷ next ∷ lines) line = last-append (next ∷ lines) line

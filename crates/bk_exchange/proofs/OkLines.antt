@@ -64,7 +64,7 @@ delete_refused key now line may = refl
 
 -- ---- listings
 
-row_writes : (slot : ℕ) (rows : List Row) (behind : List Said)
+pub row_writes : (slot : ℕ) (rows : List Row) (behind : List Said)
     → writes_in (row_calls slot rows ++ behind) ≡ writes_in behind
 row_writes slot [] behind = refl
 row_writes slot (row ∷ rows) behind = row_writes slot rows behind

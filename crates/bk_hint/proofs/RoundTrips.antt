@@ -121,7 +121,7 @@ written_is_good writes len fit within small =
     rows_are_good covered len (rows_from 0 writes) (rows_fit 0 writes fit (omega arith))
     (rows_sound 0 covered writes fit (omega arith)) (omega (arith, rows_few 0 writes)) within (omega arith)
 
-told_record : (file : FileId) (at : ℕ) (w : Write) → IsWritable w
+pub told_record : (file : FileId) (at : ℕ) (w : Write) → IsWritable w
     → version_in file (row_from at w) ≡ version_at file at w
 told_record file at w fits =
     let size : RECORD_HEADER + length w.key + value_length (row_from at w).vsz ≡ size_of w =

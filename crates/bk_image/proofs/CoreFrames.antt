@@ -33,9 +33,6 @@ other_than None n parted = tt
 other_than (Some a) n parted = parted a
 
 -- the lists are the same
-pub lists_stay : (id : ℕ) (r s : Reading) → AllBut (main id) r s → (k : ℕ) → r (swap k) ≡ s (swap k)
-lists_stay id r s others k = sym (others (swap k) (swap_apart k id))
-
 pub lists_stayed : (id : ℕ) (r s : Reading) → AllBut (main id) r s → (k : ℕ)
     → s (swap k) ≡ r (swap k)
 lists_stayed id r s others k = others (swap k) (swap_apart k id)

@@ -1,9 +1,9 @@
 -- What recovery, and the end of a merge, do to what the files hold of a log. The log stays: files get
 -- their own names, and files go that don't count.
-use Rattle.std.proofs.Common.{◌≡◌, ◌==◌, ℕ, Bool, true, false, List, [], Option, Some, None, refl}
+use Rattle.std.proofs.Common.{◌≡◌, ◌==◌, ℕ, true, false, List, [], Option, Some, None, refl}
 use Rattle.std.proofs.Common.{sym, ap, subst, ◌∙◌, arith, inl, inr}
 use Rattle.std.specs.Option.{IsSomeAnd, is_some, option_map, unwrap_or}
-use Rattle.std.proofs.lemmas.Bool.{cases_Bool, true≢false}
+use Rattle.std.proofs.lemmas.Bool.{false_from_ne_true, cases_Bool, true≢false}
 use Rattle.bk_base.specs.declared.names.Kind.{Kind}
 use Rattle.bk_base.specs.declared.names.Kind.TheVariants.{Main, MainTemp, Hint, HintTemp, Swap}
 use Rattle.bk_base.specs.declared.names.Kind.TheVariants.{SwapTemp, Settings}
@@ -186,10 +186,6 @@ output_other image fronts books (Some a) recent tried id has absent =
           (sym (same_eq (main id) (main a.id) p)) has.counts.0))
       | inr p ↦ p
     ]
-
-not_there : (b : Bool) → (b ≡ true → ⊥) → b ≡ false
-not_there true no_case = absurd (no_case refl)
-not_there false no_case = refl
 
 -- ---- what the steps of recovery leave
 
@@ -409,7 +405,7 @@ module _ {old new : Told} {books : Books} {active : Option ActiveFile}
       sym (there_in_both old temp well) ∙ sym (there_synced old.fronts temp) ∙ counted.0 in
       let absent : is_some (at old.image own) ≡ false =
       sym (there_in_both old own well) ∙ sym (there_synced old.fronts own)
-      ∙ not_there (is_some (r own)) counted.3 in
+      ∙ false_from_ne_true (is_some (r own)) counted.3 in
       let two = two_renamed temp own old new well (other_kind temp own refl) there absent b in
       let synced : Option Front → Option (List ℕ) = option_map (λ (f : Front). f.synced) in
       let others : (n : Name) → same n own ≡ false → same n temp ≡ false → s n ≡ r n =

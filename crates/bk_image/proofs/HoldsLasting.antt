@@ -19,7 +19,7 @@ use Rattle.bk_image.proofs.Places.{counts_same, list_kept, places_sym, places_wr
 use Rattle.bk_image.proofs.SafeFiles.{AllBut, all_but_sym, beside}
 
 -- a write of a book that is another one by this equation
-in_as : (w : Write) (vs ws : List Write) → vs ≡ ws → In w vs → In w ws
+pub in_as : (w : Write) (vs ws : List Write) → vs ≡ ws → In w vs → In w ws
 in_as w vs ws same is_in = subst (λ (l : List Write). In w l) same is_in
 
 -- ---- the active file is the youngest

@@ -25,7 +25,7 @@ use Rattle.bk_image.proofs.SafeMoves.{safe_as}
 
 -- ---- the fronts of a disk that is synced
 
-at-whole : (image : Image) (n : Name) → at (whole_fronts image) n ≡ option_map front_of (at image n)
+pub at-whole : (image : Image) (n : Name) → at (whole_fronts image) n ≡ option_map front_of (at image n)
 at-whole [] n = refl
 at-whole (e ∷ es) n = grind (arith, at-whole es n)
 

@@ -217,7 +217,7 @@ holds_rolled {J} lasts {old} {new} {active} {last} {log} h b =
 
 -- ---- no active file: nothing was appended or tried
 
-none_behind : (xs ys : List Write) → xs ++ ys ≡ [] → ys ≡ []
+pub none_behind : (xs ys : List Write) → xs ++ ys ≡ [] → ys ≡ []
 none_behind [] ys none = none
 none_behind (x ∷ xs) ys none = absurd (cc none)
 

@@ -100,7 +100,7 @@ refs_left : (file : ℕ) (slots : List (Option Slot)) (vs : List Version)
 refs_left file slots [] = omega arith
 refs_left file slots (v ∷ vs) = let k = refs_without file (is_unseen slots (v ∷ vs)) vs in omega (arith, k)
 
-newest_left : (slots : List (Option Slot)) (vs : List Version) → newest_of (left_by_prune slots vs) ≡ newest_of vs
+pub newest_left : (slots : List (Option Slot)) (vs : List Version) → newest_of (left_by_prune slots vs) ≡ newest_of vs
 newest_left slots [] = refl
 newest_left slots (v ∷ vs) = refl
 

@@ -6,7 +6,7 @@ use Rattle.std.proofs.lemmas.List.{drop_more, length-take-le, take-append-drop}
 use Rattle.bk_base.specs.declared.writes.Write.{Write}
 use Rattle.bk_laws.specs.Log.{IsWinner, or_else, winner}
 
-or_else-none : (a : Option Write) → or_else a None ≡ a
+pub or_else-none : (a : Option Write) → or_else a None ≡ a
 or_else-none None = refl
 or_else-none (Some w) = refl
 

@@ -32,7 +32,8 @@ use Rattle.bk_store.specs.Shown.{Shown}
 use Rattle.bk_store.proofs.Pasts.{past_same, past_then}
 use Rattle.bk_session.specs.Listing.{IsOurs, IsUnmoved}
 use Rattle.bk_session.proofs.Events.{Still, rises_by_faults}
-use Rattle.bk_session.proofs.FoldCalls.{low_slot, set_here, unmoved_nothing, unmoved_same}
+use Rattle.bk_session.proofs.FoldCalls.{set_here, unmoved_nothing, unmoved_same}
+use Rattle.bk_store.proofs.FoldSteps.{slot_within}
 use Rattle.bk_session.proofs.FoldRows.{PairEvent, listed_with, lists_pair, pair_event_of, pair_ours}
 use Rattle.bk_session.proofs.Following.{known_way}
 use Rattle.bk_session.proofs.Reading.{still_files, views_past}
@@ -91,7 +92,7 @@ moves_pair slot v u row lists later views outs =
     ap (λ (k : KeydirShown). k.slots) pair.keys in
     let here : slot_at u.keys.slots slot ≡ Some (past pair.position s) =
     ap (λ (l : List (Option Slot)). slot_at l slot) slots
-    ∙ set_here v.keys.slots slot (Some (past pair.position s)) (low_slot v.keys.slots slot s there) in
+    ∙ set_here v.keys.slots slot (Some (past pair.position s)) (slot_within v.keys.slots slot s there) in
     record {
       keys = pair.keys ∙ ap (λ (x : Option Slot). record v.keys { slots = slice_set v.keys.slots slot x }) (sym here);
       seq = lists.1;
@@ -146,7 +147,7 @@ fewer_left slot v u row lists =
     let slots : u.keys.slots ≡ slice_set v.keys.slots slot (Some s2) = ap (λ (k : KeydirShown). k.slots) pair.keys in
     let here : slot_at u.keys.slots slot ≡ Some s2 =
     ap (λ (l : List (Option Slot)). slot_at l slot) slots
-    ∙ set_here v.keys.slots slot (Some s2) (low_slot v.keys.slots slot s there) in
+    ∙ set_here v.keys.slots slot (Some s2) (slot_within v.keys.slots slot s there) in
     let now : pairs_left u slot ≡ length (still_lists ttl s2 v.keys.entries) =
     ap (λ (x : Settings). left_of x.ttl (slot_at u.keys.slots slot) u.keys.entries) lists.2
     ∙ ap (λ (o : Option Slot). left_of ttl o u.keys.entries) here

@@ -36,6 +36,8 @@ use Rattle.bk_list.proofs.Calls.{plus_one}
 use Rattle.bk_list.proofs.Gathers.{bumped_least}
 use Rattle.bk_list.specs.Getting.{GoesTo, Shows, Stays}
 use Rattle.bk_list.specs.Printing.{answer_of, asked, get_call}
+use Rattle.std.proofs.lemmas.Bool.{false_from_ne_true}
+use Rattle.bk_store.proofs.Lending.{lent_checked}
 
 got_changes : (key : List ℕ) (now : Moment) (found : Option (List ℕ)) (s : State) → changed 0 (Get key now) (answer_of found) s ≡ s
 got_changes key now None s = refl
@@ -99,11 +101,7 @@ module _ (known : Bool) (v u : Shown) (key : List ℕ) (now : Moment) (same : u 
         (value, found_with value (λ tell. is (hears tell)) b slot given behind steps listed, stopped)
 
     unknown_of : (IsTrue known → ⊥) → known ≡ false
-    unknown_of = never known
-      where
-        never : (k : Bool) → (IsTrue k → ⊥) → k ≡ false
-        never true no_way = absurd (no_way refl)
-        never false no_way = refl
+    unknown_of = false_from_ne_true known
 
     pub shows_unread : (sees sink : Bool) (why : Unread) (out new : Outgoing) → (IsTrue known → IsTrue sees)
         → (why ≡ sink_failed → ⊥) → IsUnread sees l why → new ≡ out
@@ -148,10 +146,6 @@ pub record IsFound (tells : Bool) (key : List ℕ) (now : Moment) (v u : Shown) 
   pub whole : IsTrue tells → (o : Opening) (h : List Step) (tried : List Write) → StandsFor v o h tried
       → check_of l.left ≡ l.crc
 
-lent_whole : (w : Option Write) (l : Lent) → LendsWrite w (Some l) → check_of l.left ≡ l.crc
-lent_whole None l lends = absurd lends
-lent_whole (Some w) l lends = lends.crc
-
 pub found_of : (tells : Bool) (key : List ℕ) (now : Moment) (v u : Shown) (found : Option Lent) (l : Lent) → found ≡ Some l
     → u ≡ record v { files = u.files } → u.files.catalog ≡ v.files.catalog → v.files.faults ≤ u.files.faults
     → u.files.fallible_outs ≡ v.files.fallible_outs → u.files.fallible_views ≡ view_of found v.files.fallible_views
@@ -169,7 +163,7 @@ found_of tells key now v u found l is same catalog later outs views viewed keeps
   unmoved = λ tell. unmoved_views found v.files.told u.files.told (viewed tell);
   keeps = λ tell. subst (λ (x : Option Lent). (who : ℕ) → Keeps tells (entry_by who (Get key now) (get_reply x)) v u) is (keeps tell);
   whole = λ tell o h tried stood.
-      lent_whole (winner (log_of o h) key) l
+      lent_checked (winner (log_of o h) key) l
       (subst (LendsWrite (winner (log_of o h) key)) is (lends tell o h tried stood));
 }
 

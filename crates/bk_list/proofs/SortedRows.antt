@@ -17,18 +17,13 @@ use Rattle.std.proofs.lemmas.List.Folds.{list_any-append}
 use Rattle.std.proofs.lemmas.List.Sorted.{All-permutation, list_any-IsPermutation, sum_by-IsPermutation}
 use Rattle.std.proofs.lemmas.List.Sums.{sum_by-cons}
 use Rattle.std.proofs.lemmas.Map.Text.{is_eq-slice_cmp}
-use Rattle.std.proofs.lemmas.Slice.Eq.{bytes_eq-Decides}
 use Rattle.bk_base.specs.declared.writes.Write.{Write}
 use Rattle.bk_exchange.specs.Listings.{IsListing, Row}
 use Rattle.bk_laws.specs.History.{is_listed}
 use Rattle.bk_laws.specs.Log.{live}
 use Rattle.bk_list.specs.Sorting.{AreSorted, IsSortedMap, value_in}
-
-same_key : (key other : List ℕ) → bytes_eq key other ≡ true → key ≡ other
-same_key key other is = (bytes_eq-Decides key other).0 is
-
-is_itself : (key : List ℕ) → bytes_eq key key ≡ true
-is_itself key = (bytes_eq-Decides key key).1 refl
+use Rattle.std.proofs.Math.Bool.{or-true, or-false}
+use Rattle.bk_store.proofs.Keys.{key_is, key_refl}
 
 abbrev has_key : List ℕ → Row → Bool
 has_key key row = bytes_eq key row.key
@@ -41,19 +36,7 @@ listed_behind : (key other : List ℕ) (listed : List (List ℕ)) (b : Bool) →
     → is_listed key (listed ++ other ∷ []) ≡ (is_listed key listed || b)
 listed_behind key other listed b is =
     list_any-append (bytes_eq key) listed (other ∷ [])
-    ∙ ap (λ (x : Bool). is_listed key listed || x) (or_false (bytes_eq key other) ∙ is)
-  where
-    or_false : (x : Bool) → (x || false) ≡ x
-    or_false true = refl
-    or_false false = refl
-
-or_true : (x : Bool) → (x || true) ≡ true
-or_true true = refl
-or_true false = refl
-
-or_none : (x : Bool) → (x || false) ≡ x
-or_none true = refl
-or_none false = refl
+    ∙ ap (λ (x : Bool). is_listed key listed || x) (or-false (bytes_eq key other) ∙ is)
 
 first_not : (a b : Bool) → (a || b) ≡ false → a ≡ false
 first_not true b is = absurd (true≢false is)
@@ -78,7 +61,7 @@ module _ (ttl now : ℕ) (log : List Write) where
   none_else listed (row ∷ rows) h key apart none =
       let other = first_not (has_key key row) (list_any (has_key key) rows) none in
       none_else (listed ++ row.key ∷ []) rows h.2 key
-      (listed_behind key row.key listed false other ∙ or_none (is_listed key listed) ∙ apart)
+      (listed_behind key row.key listed false other ∙ or-false (is_listed key listed) ∙ apart)
       (second_not (has_key key row) (list_any (has_key key) rows) none)
 
   -- no key stands twice
@@ -91,15 +74,15 @@ module _ (ttl now : ℕ) (log : List Write) where
         | inl is ↦
             let bound : Bool → ℕ = λ b. cond b 0 1 in
             let taken : bound (is_listed key (listed ++ row.key ∷ [])) ≡ 0 = ap bound
-            (listed_behind key row.key listed true is ∙ or_true (is_listed key listed)) in
+            (listed_behind key row.key listed true is ∙ or-true (is_listed key listed)) in
             let free : bound (is_listed key listed) ≡ 1 = ap bound
-            (ap (λ (k : List ℕ). is_listed k listed) (same_key key row.key is) ∙ h.0) in
+            (ap (λ (k : List ℕ). is_listed k listed) (key_is key row.key is) ∙ h.0) in
             let here : one key row ≡ 1 = ap (λ (b : Bool). cond b 1 0) is in
             omega (arith, later, taken, free, here, sum_by-cons (one key) row rows)
         | inr is ↦
             let bound : Bool → ℕ = λ b. cond b 0 1 in
             let same : bound (is_listed key (listed ++ row.key ∷ [])) ≡ bound (is_listed key listed) =
-            ap bound (listed_behind key row.key listed false is ∙ or_none (is_listed key listed)) in
+            ap bound (listed_behind key row.key listed false is ∙ or-false (is_listed key listed)) in
             let here : one key row ≡ 0 = ap (λ (b : Bool). cond b 1 0) is in
             omega (arith, later, same, here, sum_by-cons (one key) row rows)
       ]
@@ -114,7 +97,7 @@ module _ (ttl now : ℕ) (log : List Write) where
       elim (cases_Bool (has_key key row)) [
         | inl here ↦
             ap (λ (b : Bool). cond b (Some row.value) (value_in rows key)) here
-            ∙ sym (All-head P row rows all) ∙ ap (λ (k : List ℕ). live log k now ttl) (sym (same_key key row.key here))
+            ∙ sym (All-head P row rows all) ∙ ap (λ (k : List ℕ). live log k now ttl) (sym (key_is key row.key here))
         | inr here ↦
             ap (λ (b : Bool). cond b (Some row.value) (value_in rows key)) here
             ∙ value_there rows (All-tail P row rows all) key
@@ -172,7 +155,7 @@ sorted_map ttl now log given rows h s = record {
         ⊎ (bytes_eq (get_or rows k d).key (get_or rows (k + 1) d).key ≡ false)
         → bytes_eq (get_or rows k d).key (get_or rows (k + 1) d).key ≡ false
     apart k d inside (inl same) =
-        let twice = two_there (get_or rows k d).key rows k d inside (is_itself (get_or rows k d).key)
+        let twice = two_there (get_or rows k d).key rows k d inside (key_refl (get_or rows k d).key)
         (ap (λ (n : ℕ). has_key (get_or rows k d).key (get_or rows n d)) (sym (add-one k)) ∙ same) in
         let most = single (get_or rows k d).key in
         absurd (omega (arith, twice, most))

@@ -25,7 +25,7 @@ use Rattle.bk_exchange.specs.Points.{AtOne, Event, Point, Said, calls_of, events
 use Rattle.bk_exchange.specs.Sessions.{first_moment, later_moments}
 use Rattle.bk_exchange.specs.Writes.{writes_in}
 use Rattle.bk_exchange.proofs.Events.{point_of-append, state_of_point}
-use Rattle.bk_exchange.proofs.OkLines.{writes-append}
+use Rattle.bk_exchange.proofs.OkLines.{row_writes, writes-append}
 use Rattle.bk_exchange.proofs.OneCaller.{alone_all, log_at}
 use Rattle.bk_exchange.proofs.WholeListings.{listing_whole}
 use Rattle.bk_image.specs.Prefix.{MeetsEither}
@@ -47,7 +47,8 @@ use Rattle.bk_files.specs.Files.{Seen}
 use Rattle.bk_session.specs.Following.{Follows}
 use Rattle.bk_session.specs.Listing.{Begun, Closes, IsOurs, IsUnmoved, Listed}
 use Rattle.bk_session.specs.Serving.{Tells}
-use Rattle.bk_session.proofs.FoldCalls.{listed_closed, listed_opened, low_slot, owned, same_clock, set_here}
+use Rattle.bk_session.proofs.FoldCalls.{listed_closed, listed_opened, owned, same_clock, set_here}
+use Rattle.bk_store.proofs.FoldSteps.{slot_within}
 use Rattle.bk_session.proofs.Following.{known_way}
 use Rattle.bk_list.specs.declared.lists.ListEnd.{ListEnd}
 use Rattle.bk_list.specs.Gathering.{Gathers, MovesOn, Refuses, Stops, keys_of}
@@ -58,6 +59,7 @@ use Rattle.bk_list.specs.Sorting.{AreSorted, key_cmp}
 use Rattle.bk_list.proofs.Gathers.{moves_then, set_same}
 use Rattle.bk_list.proofs.Prints.{no_rows}
 use Rattle.bk_list.proofs.SortedRows.{all_live, sorted_map}
+use Rattle.bk_image.proofs.HoldsRolls.{none_behind}
 
 -- ---- the order
 
@@ -143,15 +145,6 @@ nothing_first : (xs ys : List Write) → xs ++ ys ≡ [] → xs ≡ []
 nothing_first [] ys none = refl
 nothing_first (x ∷ xs) ys none = absurd (cc none)
 
-nothing_then : (xs ys : List Write) → xs ++ ys ≡ [] → ys ≡ []
-nothing_then [] ys none = none
-nothing_then (x ∷ xs) ys none = absurd (cc none)
-
-rows_write_nothing : (slot : ℕ) (rows : List Row) (behind : List Said)
-    → writes_in (row_calls slot rows ++ behind) ≡ writes_in behind
-rows_write_nothing slot [] behind = refl
-rows_write_nothing slot (row ∷ rows) behind = rows_write_nothing slot rows behind
-
 -- a call that writes nothing leaves the log
 same_log : (p : Point) (step : Step) → writes_in (heard step.entry.call step.entry.reply) ≡ []
     → (next_point p step).state.log ≡ p.state.log
@@ -171,7 +164,7 @@ log_before Q F p (step ∷ steps) none (inr later) =
     let behind = calls_of (events (next_point p step) steps) in
     let all : writes_in said ++ writes_in behind ≡ [] = sym (writes-append said behind) ∙ none in
     subst Q (same_log p step (nothing_first (writes_in said) (writes_in behind) all))
-    (log_before Q F (next_point p step) steps (nothing_then (writes_in said) (writes_in behind) all) later)
+    (log_before Q F (next_point p step) steps (none_behind (writes_in said) (writes_in behind) all) later)
 
 legal_behind : (ttl : ℕ) (s : State) (h steps : List Step) → IsLegal ttl s (entries (h ++ steps))
     → IsLegal ttl (state_of s (entries h)) (entries steps)
@@ -212,7 +205,7 @@ gets_live ttl p (step ∷ steps) none legal =
     heard_live ttl p.state.log step.entry.call step.entry.reply behind
     (get_is_live ttl p.state step.entry.caller step.entry.call step.entry.reply legal.0)
     (subst (λ (log : List Write). AllByRecursion (SaysLive ttl log) behind) (same_log p step (nothing_first (writes_in said) (writes_in behind) all))
-    (gets_live ttl (next_point p step) steps (nothing_then (writes_in said) (writes_in behind) all) legal.1))
+    (gets_live ttl (next_point p step) steps (none_behind (writes_in said) (writes_in behind) all) legal.1))
 
 all_behind : (P : Said → Type 0) (xs ys : List Said) → AllByRecursion P (xs ++ ys) → AllByRecursion P ys
 all_behind P [] ys all = all
@@ -242,7 +235,7 @@ module _ (known : Bool) (b : Begun) (slot : ℕ) (v : Shown) (given : List Row) 
   pub nothing_written : writes_in (calls_of (events (point_of b.opening b.before) steps)) ≡ []
   nothing_written =
       ap (λ (es : List Event). writes_in (calls_of es)) (sym (alone_all 0 (point_of b.opening b.before) steps l.alone))
-      ∙ ap writes_in l.called ∙ rows_write_nothing slot given behind ∙ none
+      ∙ ap writes_in l.called ∙ row_writes slot given behind ∙ none
 
   pub log_stays : log_of b.opening (b.before ++ steps) ≡ log_of b.opening b.before
   log_stays =
@@ -335,7 +328,7 @@ free_after : (slot : ℕ) (v u : Shown) → IsOurs slot v → IsClosed slot v u 
 free_after slot v u ours is =
     let (s, there) = owned (slot_at v.keys.slots slot) 0 ours in
     ap (λ (x : Shown). slot_at x.keys.slots slot) is
-    ∙ set_here v.keys.slots slot None (low_slot v.keys.slots slot s there)
+    ∙ set_here v.keys.slots slot None (slot_within v.keys.slots slot s there)
 
 pub moves_closed : (slot : ℕ) (v u : Shown) → IsOurs slot v → IsClosed slot v u → MovesOn slot v u
 moves_closed slot v u ours is =

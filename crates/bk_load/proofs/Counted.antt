@@ -1,5 +1,5 @@
 -- Rows in order of id, and their counts.
-use Rattle.std.proofs.Common.{◌≡◌, ◌==◌, ◌⊎◌, ◌&&◌, ℕ, zero, suc, ◌+◌, ◌<◌, ◌≤◌, Bool, true, false, not, cond, min, nat_lt, List, [], ◌∷◌, ◌++◌, length, get_or, slice_get, slice_set, take, map, Option, Some, None, refl, sym, ap, subst, ◌∙◌, inl, inr, arith, eq-eqb, eqb-true}
+use Rattle.std.proofs.Common.{◌≡◌, ◌==◌, ◌&&◌, ℕ, zero, suc, ◌+◌, ◌<◌, ◌≤◌, Bool, true, false, not, cond, min, nat_lt, List, [], ◌∷◌, ◌++◌, length, get_or, slice_get, slice_set, take, Option, Some, None, refl, sym, ap, subst, ◌∙◌, inl, inr, arith, eq-eqb}
 use Rattle.std.specs.Option.{is_some, option_map}
 use Rattle.std.specs.List.{AllByRecursion, position, position_or_len}
 use Rattle.std.proofs.lemmas.Bool.{cases_Bool, cases_eq, cases_lt}
@@ -12,7 +12,7 @@ use Rattle.bk_base.specs.declared.rows.RowState.TheVariants.{Active}
 use Rattle.bk_base.specs.declared.writes.Version.{Version}
 use Rattle.bk_files.specs.Catalog.{edited, row_of}
 use Rattle.bk_files.proofs.RowEdits.{edited_found, none_edited}
-use Rattle.bk_keydir.specs.Counts.{bytes_if, bytes_in, is_put_in, live_of, one_if, one_in, refs_in, refs_of}
+use Rattle.bk_keydir.specs.Counts.{bytes_if, bytes_in, live_of, one_if, one_in, refs_of}
 use Rattle.bk_keydir.specs.Keydir.{Entry, newest_of, versions_at}
 use Rattle.bk_store.proofs.RowCounts.{row_of-edited}
 use Rattle.bk_load.specs.Counting.{RowsRise, all_counted, counted_if, counted_in, top, with_put}

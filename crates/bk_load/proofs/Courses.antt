@@ -14,6 +14,7 @@ use Rattle.bk_files.specs.declared.scan.ScanError.{ScanError}
 use Rattle.bk_files.specs.declared.scan.ScanError.TheVariants.{Read as scan_failed, Memory as scan_memory}
 use Rattle.bk_load.specs.Tidying.{Goes}
 use Rattle.bk_load.proofs.Going.{goes_or, goes_refl, goes_trans}
+use Rattle.bk_store.proofs.AppendExits.{rose_since}
 
 pub came_refl : (tells : Bool) (a : Seen) → Came tells a a
 came_refl tells a = record { faults = omega arith; views = omega arith; outs = refl; goes = λ told. goes_refl a.told }
@@ -26,16 +27,13 @@ came_trans tells a b c p q = record {
   goes = λ told. goes_trans a.told b.told c.told (p.goes told) (q.goes told);
 }
 
-rose_later : (a b c : ℕ) → a ≤ b → Rose b c → Rose a c
-rose_later a b c le rose = omega (arith, le, rose)
-
 -- after calls that came to b, one that went on with this result
 pub course_after : {T : Type 0} (tells : Bool) (a b c : Seen) (result : Result T OpenError) → Came tells a b
     → Course tells b c result → Course tells a c result
 course_after tells a b c result p q = record {
   came = came_trans tells a b c p q.came;
-  disk = λ is. rose_later a.faults b.faults c.faults p.faults (q.disk is);
-  read = λ is. rose_later a.views b.views c.views p.views (q.read is);
+  disk = λ is. rose_since a.faults b.faults c.faults p.faults (q.disk is);
+  read = λ is. rose_since a.views b.views c.views p.views (q.read is);
 }
 
 -- the same refusal is given on, or another answer that names no more causes

@@ -27,10 +27,7 @@ use Rattle.bk_load.specs.Scanning.{HasScanned}
 use Rattle.bk_load.proofs.Listings.{map_some}
 use Rattle.bk_load.proofs.Numbering.{Numbers}
 use Rattle.bk_load.proofs.Learned.{greatest_more, learns_more, learns_none}
-
-pub all_behind : {X : Type 0} (P : X → Type 0) (xs : List X) (x : X) → AllByRecursion P xs → P x → AllByRecursion P (xs ++ x ∷ [])
-all_behind P [] x all p = (p, tt)
-all_behind P (y ∷ ys) x all p = (all.0, all_behind P ys x all.1 p)
+use Rattle.bk_hint.proofs.RowTexts.{AllByRecursion-push}
 
 -- the ids, of numbered files and of those that were read
 abbrev pub ids_of : List Numbered → List ℕ
@@ -112,7 +109,7 @@ pub have_read_more : (books : Books) (fs : List FileFound) (f : FileFound) (j k 
 have_read_more books fs f j k l before scanned =
     let total : HasTotal books f = let p = scanned.ends in omega (arith, p) in
     record {
-      totals = all_behind (HasTotal books) fs f before.totals total;
+      totals = AllByRecursion-push (HasTotal books) fs f before.totals total;
       learns = subst (λ (ps : List (List ℕ × Version)). Learns ps j.keys.entries l.keys.entries) (sym (placed-behind books fs f))
           (learns_more (placed_in books fs) (placed_from f.row.id 0 (books (main f.row.id.0))) j.keys.entries k.keys.entries
           l.keys.entries before.learns scanned.learns);

@@ -6,7 +6,7 @@ use Rattle.bk_base.specs.declared.numbers.FileId.{FileId}
 use Rattle.bk_base.specs.declared.writes.Version.{Version}
 use Rattle.bk_base.specs.declared.writes.Write.{Write}
 use Rattle.bk_hint.specs.Passing.{Gives, Reading}
-use Rattle.bk_hint.proofs.RoundTrips.{told_records}
+use Rattle.bk_hint.proofs.RoundTrips.{told_record}
 use Rattle.bk_image.proofs.Chances.{fit-right}
 use Rattle.bk_laws.specs.Hint.{Hinted, IsSoundRow, RowsLeft, row_end, row_from, rows_from, version_in}
 use Rattle.bk_laws.specs.Record.{IsWritable, record_of, records_of, size_of}
@@ -29,12 +29,6 @@ pub taking_none : (bytes : List ℕ) (file : FileId) (covered : ℕ) (writes : L
 taking_none bytes file covered writes j left =
     record { done = []; todo = writes; whole = refl; left = left; scanned = scanned_none file 0 j }
 
-one_told : (file : FileId) (at : ℕ) (w : Write) → IsWritable w → version_in file (row_from at w) ≡ version_at file at w
-one_told file at w fits =
-    let both = told_records file at (w ∷ []) (fits, tt) in
-    let pair : ◌≡◌ {A = List ℕ × Version} (w.key, version_in file (row_from at w)) (w.key, version_at file at w) = cc both in
-    ap (λ (p : List ℕ × Version). p.1) pair
-
 one_more : (bytes : List ℕ) (file : FileId) (covered : ℕ) (writes : List Write) (old new : Reading) (v : Version)
     (key : List ℕ) (j k l : Known) (done todo : List Write) → writes ≡ done ++ todo → AllByRecursion IsWritable writes
     → HasScanned file 0 done (length (records_of done)) j k → old.file ≡ file
@@ -49,7 +43,7 @@ one_more bytes file covered writes old new v key j k l done (w ∷ ws) whole fit
     let others : rows_from (place + size_of w) ws ≡ later = cc rows in
     let version : v ≡ version_at file place w =
     v_is ∙ ap (λ (x : Hinted). version_in old.file x) (sym row) ∙ ap (λ (f : FileId). version_in f (row_from place w)) is_file
-    ∙ one_told file place w fits in
+    ∙ told_record file place w fits in
     let is_key : key ≡ w.key = key_is ∙ ap (λ (x : Hinted). x.key) (sym row) in
     let long : length (records_of (done ++ w ∷ [])) ≡ place + size_of w =
     length-records done (w ∷ []) ∙ ap (λ (n : ℕ). place + n) (one_long w) in

@@ -1,14 +1,13 @@
 -- The keydir without the keys that are gone: one version of each key, which is a put.
-use Rattle.std.proofs.Common.{◌≡◌, ◌==◌, ◌⊎◌, ◌&&◌, ℕ, ◌+◌, ◌<◌, ◌≤◌, Bool, true, false, not, cond, List, [], ◌∷◌, length, Option, Some, None, refl, sym, ap, subst, ◌∙◌, inl, inr, arith}
+use Rattle.std.proofs.Common.{◌≡◌, ℕ, ◌+◌, ◌≤◌, Bool, true, false, not, cond, List, [], ◌∷◌, length, Some, None, refl, sym, ap, subst, ◌∙◌, inl, inr, arith}
 use Rattle.std.specs.List.{AllByRecursion, IsDistinct, filter}
 use Rattle.std.specs.Map.{keys_of}
 use Rattle.std.specs.Str.{bytes_eq}
-use Rattle.std.proofs.lemmas.Bool.{cases_Bool}
 use Rattle.std.proofs.lemmas.Map.Made.{IsDistinct-keys_filter}
 use Rattle.bk_base.specs.declared.limits.TheConstants.{RECORD_HEADER}
 use Rattle.bk_base.specs.declared.writes.Version.{Version}
 use Rattle.bk_image.specs.Readings.{In}
-use Rattle.bk_keydir.specs.Counts.{bytes_if, bytes_in, is_put_in, live_of, one_if, one_in, refs_in, refs_of}
+use Rattle.bk_keydir.specs.Counts.{bytes_if, bytes_in, is_put_in, live_of, one_in, refs_of}
 use Rattle.bk_keydir.specs.Keydir.{Entry, is_lone_gone, newest_of, versions_of, without_gone}
 use Rattle.bk_load.specs.Learning.{FitsVersion, IsLone, IsLoneEntry}
 use Rattle.bk_load.specs.Loads.{AreLone, put_if}

@@ -1,5 +1,5 @@
 -- Where the same bytes count with the same hints, the log stays.
-use Rattle.std.proofs.Common.{◌≡◌, ℕ, ◌≤◌, Bool, true, false, cond, List, [], length, Option, Some, None, refl, sym, ap, subst, ◌∙◌}
+use Rattle.std.proofs.Common.{◌≡◌, ℕ, ◌≤◌, Bool, true, cond, List, [], length, Option, Some, None, refl, sym, ap, subst, ◌∙◌}
 use Rattle.std.specs.Option.{is_some, unwrap_or}
 use Rattle.bk_base.specs.declared.names.Kind.{Kind}
 use Rattle.bk_base.specs.declared.names.Kind.TheVariants.{Main, MainTemp}
@@ -8,19 +8,17 @@ use Rattle.bk_base.specs.declared.writes.Write.{Write}
 use Rattle.bk_disk.specs.Told.{Image, Told, at, clock}
 use Rattle.bk_disk.specs.Crashes.{IsSynced, MayLeave, fronts_at}
 use Rattle.bk_image.specs.CountedFiles.{Counts, CountsAs}
-use Rattle.bk_image.specs.Readings.{Books, In, IsThere, Reading, bytes_in, hint, main, main_temp}
+use Rattle.bk_image.specs.Readings.{Books, IsThere, Reading, bytes_in, hint, main, main_temp}
 use Rattle.bk_image.specs.RecoveredLog.{AreOnce, HintTrue, HintsTrue, Recovers}
 use Rattle.bk_image.specs.SoundDirectory.{IsSound}
 use Rattle.bk_laws.specs.Record.{AreRecords}
 use Rattle.bk_load.specs.Tidying.{CountsWith, Goes, Tidied}
+use Rattle.std.proofs.lemmas.Bool.{false_from_ne_true}
+use Rattle.bk_image.proofs.HoldsLasting.{in_as}
 
 -- the book of an id, under the name that its file has
 abbrev pub books_by : Reading → Books → Books
 books_by r books n = cond (is_some (r (main n.id))) (books (main n.id)) (books (main_temp n.id))
-
-off : (b : Bool) → (b ≡ true → ⊥) → b ≡ false
-off true never = absurd (never refl)
-off false never = refl
 
 -- a file that counts is the one that its id's book is of
 own_book : (r : Reading) (books : Books) (kind : Kind) (id : ℕ) → CountsAs kind r id → (k : Name) → k.id ≡ id
@@ -30,7 +28,7 @@ own_book r books Main id c k is =
     ∙ ap (λ (b : Bool). cond b (books (main id)) (books (main_temp id))) c.0
 own_book r books MainTemp id c k is =
     ap (λ (n : ℕ). cond (is_some (r (main n))) (books (main n)) (books (main_temp n))) is
-    ∙ ap (λ (b : Bool). cond b (books (main id)) (books (main_temp id))) (off (is_some (r (main id))) c.3)
+    ∙ ap (λ (b : Bool). cond b (books (main id)) (books (main_temp id))) (false_from_ne_true (is_some (r (main id))) c.3)
 own_book r books kind id c k is = absurd c
 
 some_is : (o : Option (List ℕ)) → is_some o ≡ true → o ≡ Some (unwrap_or o [])
@@ -84,9 +82,6 @@ is_one r s books m t c =
     let (kind, counts, is) = t.is m.id (bytes_in r m) here in
     (record { id = m.id; kind = kind }, counts, own_book r books m.kind m.id c (record { id = m.id; kind = kind }) refl)
 
-in_book : (w : Write) (a b : List Write) → a ≡ b → In w a → In w b
-in_book w a b is is_in = subst (λ (ws : List Write). In w ws) is is_in
-
 same_name : (s : Reading) (n k : Name) → n.id ≡ k.id → Counts s n → Counts s k → n ≡ k
 same_name s n k is p q =
     let q_here : CountsAs k.kind s n.id = subst (λ (id : ℕ). CountsAs k.kind s id) (sym is) q in
@@ -105,17 +100,17 @@ tidied_recovers r s books log t rec = record {
       let p = was_one r s books n t c in
       let q = was_one r s books k t d in
       let same_file : p.m ≡ q.m =
-      rec.apart p.m q.m w p.counts q.counts (in_book w (books_by r books n) (books p.m) p.book here)
-      (in_book w (books_by r books k) (books q.m) q.book there) in
+      rec.apart p.m q.m w p.counts q.counts (in_as w (books_by r books n) (books p.m) p.book here)
+      (in_as w (books_by r books k) (books q.m) q.book there) in
       same_name s n k (sym p.id ∙ ap (λ (x : Name). x.id) same_file ∙ q.id) c d;
   rising = rec.rising;
   from = λ w is_in.
       let (m, c, there) = rec.from w is_in in
       let (n, counts, book) = is_one r s books m t c in
-      (n, counts, in_book w (books m) (books_by r books n) (sym book) there);
+      (n, counts, in_as w (books m) (books_by r books n) (sym book) there);
   all = λ n w c is_in.
       let was = was_one r s books n t c in
-      rec.all was.m w was.counts (in_book w (books_by r books n) (books was.m) was.book is_in);
+      rec.all was.m w was.counts (in_as w (books_by r books n) (books was.m) was.book is_in);
 }
 
 pub tidied_hints : (r s : Reading) (books : Books) → Tidied r s → HintsTrue r books → HintsTrue s (books_by r books)

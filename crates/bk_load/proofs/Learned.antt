@@ -1,5 +1,5 @@
 -- What the keydir knows after one record more.
-use Rattle.std.proofs.Common.{◌≡◌, ◌==◌, ℕ, zero, suc, ◌+◌, ◌<◌, ◌≤◌, Bool, true, false, cond, max, nat_lt, List, [], ◌∷◌, ◌++◌, Option, Some, None, refl, sym, ap, subst, ◌∙◌, inl, inr, arith}
+use Rattle.std.proofs.Common.{◌≡◌, ◌==◌, ℕ, ◌+◌, ◌<◌, ◌≤◌, Bool, true, false, cond, max, nat_lt, List, [], ◌∷◌, ◌++◌, Option, Some, None, refl, sym, ap, subst, ◌∙◌, inl, inr, arith}
 use Rattle.std.specs.List.{AllByRecursion}
 use Rattle.std.specs.Str.{bytes_eq}
 use Rattle.std.proofs.lemmas.Bool.{cases_lt, cases_eq}
@@ -10,9 +10,10 @@ use Rattle.bk_base.specs.declared.writes.Write.{Write}
 use Rattle.bk_keydir.specs.declared.slots.Slot.{Slot}
 use Rattle.bk_keydir.specs.Keydir.{Entry, IsNewer, IsNewerThan, Shown, keeps_newest, newest_of, put_over, versions_of, with_version}
 use Rattle.bk_keydir.specs.Counts.{PutCounts, bytes_in, live_of}
-use Rattle.bk_keydir.specs.Slots.{IsOpen, has_open, is_seen, slot_at}
+use Rattle.bk_keydir.specs.Slots.{has_open, is_seen}
 use Rattle.bk_load.specs.Learning.{AreFit, FitsVersion, Grows, IsLone, IsLoneEntry, Learns, greatest, if_of, newer, newest_in}
 use Rattle.bk_store.proofs.Keys.{key_is, key_sym, newest_put}
+use Rattle.bk_keydir.proofs.FoldLemmas.{none_open}
 
 -- Of three versions the newest is found in either order of tests
 
@@ -79,16 +80,6 @@ learns_more ps qs es fs gs a b key =
     ∙ ap (newer (newest_of (versions_of key es))) (sym (newest_in-append key ps qs))
 
 -- No fold is open
-
-pub no_slot : (slots : List (Option Slot)) (n : ℕ) → has_open slots ≡ false → slot_at slots n ≡ None
-no_slot [] n none = refl
-no_slot (None ∷ slots) zero none = refl
-no_slot (None ∷ slots) (suc n) none = no_slot slots n none
-no_slot (Some s ∷ slots) n none = absurd (cc none)
-
-pub none_open : (slots : List (Option Slot)) (s : Slot) → has_open slots ≡ false → IsOpen slots s → ⊥
-none_open slots s none (n, is) =
-    let never : None ≡ Some s = sym (no_slot slots n none) ∙ is in cc never
 
 none_sees : (slots : List (Option Slot)) (vs : List Version) (seq : ℕ) → has_open slots ≡ false → is_seen slots vs seq ≡ false
 none_sees [] vs seq none = refl

@@ -1,7 +1,7 @@
 -- Files that nothing needs may go, also after others have gone.
-use Rattle.std.proofs.Common.{◌≡◌, ℕ, ◌+◌, ◌<◌, ◌≤◌, get_or, take, subst, Bool, true, false, not, cond, List, [], ◌∷◌, length, Option, Some, None, refl, sym, ap, ◌∙◌, inl, inr}
+use Rattle.std.proofs.Common.{◌≡◌, ℕ, ◌+◌, ◌<◌, ◌≤◌, get_or, take, subst, Bool, true, false, cond, List, [], ◌∷◌, length, Option, Some, None, refl, sym, ap, ◌∙◌, inl, inr}
 use Rattle.std.specs.Option.{is_some, option_map}
-use Rattle.std.proofs.lemmas.Bool.{cases_Bool}
+use Rattle.std.proofs.lemmas.Bool.{not-true, cases_Bool}
 use Rattle.std.proofs.lemmas.List.{take_all}
 use Rattle.bk_base.specs.declared.names.Kind.{Kind}
 use Rattle.bk_base.specs.declared.names.Kind.TheVariants.{Main, MainTemp, Hint, HintTemp, Swap, SwapTemp, Settings}
@@ -38,10 +38,6 @@ len_there (e ∷ es) n there =
           (len_there es n (ap is_some (sym here) ∙ there))
     ]
 
-not_so : (b : Bool) → not b ≡ true → b ≡ false
-not_so true is = absurd (cc is)
-not_so false is = refl
-
 record Loose (b : Bool) (k : Kind) : Type 0 where
   no_main : k ≡ Main → ⊥
   no_swap : k ≡ Swap → ⊥
@@ -51,7 +47,7 @@ loose_kind : (b : Bool) (k : Kind) → loose_by b k ≡ true → Loose b k
 loose_kind b MainTemp is = record { no_main = λ e. cc e; no_swap = λ e. cc e; no_data = λ e. absurd (cc e) }
 loose_kind b HintTemp is = record { no_main = λ e. cc e; no_swap = λ e. cc e; no_data = λ e. absurd (cc e) }
 loose_kind b SwapTemp is = record { no_main = λ e. cc e; no_swap = λ e. cc e; no_data = λ e. absurd (cc e) }
-loose_kind b Hint is = record { no_main = λ e. cc e; no_swap = λ e. cc e; no_data = λ e. not_so b is }
+loose_kind b Hint is = record { no_main = λ e. cc e; no_swap = λ e. cc e; no_data = λ e. not-true b is }
 loose_kind b Main is = absurd (cc is)
 loose_kind b Swap is = absurd (cc is)
 loose_kind b Settings is = absurd (cc is)
@@ -138,10 +134,10 @@ pub cleared_kept : (image now : Image) (files items : List Listed) (i : ℕ) (d 
     → IsOnce (names image) → files ≡ listing image → i < length items → has ≡ len_in files (main (get_or items i d).name.id)
     → loose ≡ loose_by (is_some has) (get_or items i d).name.kind → loose ≡ false
     → ClearedSome (at image) (at now) (take i items) → ClearedSome (at image) (at now) (take (i + 1) items)
-cleared_kept image now files items i d has loose once listed low is tested not_so before =
+cleared_kept image now files items i d has loose once listed low is tested not-true before =
     cleared_still (at image) (at now) items i d low
     (ap (λ (b : Bool). loose_by b (get_or items i d).name.kind)
-    (sym (has_main image files (get_or items i d).name.id has once listed is)) ∙ sym tested ∙ not_so) before
+    (sym (has_main image files (get_or items i d).name.id has once listed is)) ∙ sym tested ∙ not-true) before
 
 pub not_main : (has_main : Bool) (k : Kind) → loose_by has_main k ≡ true → k ≡ Main → ⊥
 not_main has_main k is = (loose_kind has_main k is).no_main

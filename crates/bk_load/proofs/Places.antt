@@ -3,7 +3,6 @@ use Rattle.std.proofs.Common.{◌≡◌, ◌==◌, ◌⊎◌, ℕ, ◌+◌, ◌�
 use Rattle.std.specs.Str.{bytes_eq}
 use Rattle.std.proofs.lemmas.Bool.Decides.{nat_tests}
 use Rattle.bk_base.specs.declared.numbers.FileId.{FileId}
-use Rattle.bk_base.specs.declared.rows.Row.{Row}
 use Rattle.bk_base.specs.declared.writes.Version.{Version}
 use Rattle.bk_files.specs.Catalog.{row_of}
 use Rattle.bk_image.specs.Readings.{In}
@@ -122,7 +121,7 @@ found_more found f es fs gs before now w kept = go (now w kept) where
 
 -- ---- their rows
 
-above_low : (low : ℕ) (fs : List FileFound) (f : FileFound) → FilesRise low fs → In f fs → low ≤ f.row.id.0
+pub above_low : (low : ℕ) (fs : List FileFound) (f : FileFound) → FilesRise low fs → In f fs → low ≤ f.row.id.0
 above_low low [] f rise is_in = absurd is_in
 above_low low (g ∷ gs) f rise (inl is) =
     let id : f.row.id.0 ≡ g.row.id.0 = ap (λ (x : FileFound). x.row.id.0) is in

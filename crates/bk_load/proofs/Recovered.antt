@@ -1,5 +1,5 @@
 -- What the records of a sound directory said is what its log says.
-use Rattle.std.proofs.Common.{◌≡◌, ◌==◌, ◌⊎◌, ℕ, zero, suc, ◌+◌, ◌<◌, ◌≤◌, Bool, true, false, cond, max, nat_lt, List, [], ◌∷◌, ◌++◌, length, take, drop, map, Option, Some, None, refl, sym, ap, subst, ◌∙◌, inl, inr, arith, length-append, append_assoc, eq-eqb}
+use Rattle.std.proofs.Common.{◌≡◌, ◌==◌, ◌⊎◌, ℕ, ◌+◌, ◌<◌, ◌≤◌, Bool, true, false, cond, max, nat_lt, List, [], ◌∷◌, ◌++◌, length, take, drop, map, Option, Some, None, refl, sym, ap, subst, ◌∙◌, inl, inr, arith, length-append, append_assoc, eq-eqb}
 use Rattle.std.specs.Option.{is_some, unwrap_or}
 use Rattle.std.specs.List.{AllByRecursion}
 use Rattle.std.specs.Str.{bytes_eq}
@@ -30,13 +30,12 @@ use Rattle.bk_image.specs.Readings.{Books, In, Reading, bytes_in, main}
 use Rattle.bk_image.specs.RecoveredLog.{Recovers}
 use Rattle.bk_image.specs.SoundDirectory.{IsSound, IsSoundDisk}
 use Rattle.bk_keydir.specs.declared.loads.Loaded.{Loaded}
-use Rattle.bk_keydir.specs.Keydir.{Entry, newest_of, versions_of}
 use Rattle.bk_laws.proofs.RecordBytes.{length-record_of}
-use Rattle.bk_laws.specs.Log.{IsLog, last_seq, put_in, put_of, winner}
+use Rattle.bk_laws.specs.Log.{IsLog, last_seq, put_in, winner}
 use Rattle.bk_laws.specs.Record.{AreRecords, record_of, records_of, size_of}
 use Rattle.bk_laws.specs.Version.{is_tombstone, placed_from, version_at}
 use Rattle.bk_store.specs.Starting.{IsLoadOf}
-use Rattle.bk_store.specs.Versions.{IsPlaced, KeyStands, KeysStand, VersionStands}
+use Rattle.bk_store.specs.Versions.{KeyStands, KeysStand, VersionStands}
 use Rattle.bk_load.specs.declared.files.FileFound.{FileFound}
 use Rattle.bk_load.specs.Found.{AreFound, FilesRise, HasTotal, IsFound, found_row, placed_in, writes_in}
 use Rattle.bk_load.specs.Learning.{greatest, if_of, newer, newest_in}
@@ -47,6 +46,7 @@ use Rattle.bk_load.proofs.KeptKeys.{all_in}
 use Rattle.bk_load.proofs.KeptLogs.{counts_bytes, tidied_sound}
 use Rattle.bk_store.proofs.Keys.{key_is, key_same, key_sym}
 use Rattle.bk_load.proofs.Tidied.{own_name}
+use Rattle.bk_load.proofs.Places.{above_low}
 
 -- ---- the newest of some versions
 
@@ -279,18 +279,11 @@ pub record Held (r : Reading) (books : Books) (found : List FileFound) (log : Li
   pub files : AreFound r found
   pub recovers : Recovers r books log
 
-found_low : (low : ℕ) (fs : List FileFound) (f : FileFound) → FilesRise low fs → In f fs → low ≤ f.row.id.0
-found_low low [] f rise is_in = absurd is_in
-found_low low (g ∷ gs) f rise (inl is) =
-    let id : f.row.id.0 ≡ g.row.id.0 = ap (λ (x : FileFound). x.row.id.0) is in let p = rise.0 in omega (arith, id, p)
-found_low low (g ∷ gs) f rise (inr later) =
-    let p = rise.0 in let q = found_low (g.row.id.0 + 1) gs f rise.1 later in omega (arith, p, q)
-
 pub found_counts : (r : Reading) (found : List FileFound) (f : FileFound) → HasNoList r → FilesRise 1 found → AreFound r found
     → In f found → Counts r (main f.row.id.0)
 found_counts r found f none rise files is_in =
     let is = all_in (IsFound r) found f files.each is_in in
-    (ap is_some is.there, λ input. let (l, has, there) = input in none l has, found_low 1 found f rise is_in)
+    (ap is_some is.there, λ input. let (l, has, there) = input in none l has, above_low 1 found f rise is_in)
 
 own : (r : Reading) (n : Name) → HasNoList r → Counts r n → n ≡ main n.id
 own r n none c = go n.kind n.id c where

@@ -1,8 +1,8 @@
 -- The swap lists that stand, as they are settled one after the other.
-use Rattle.std.proofs.Common.{◌≡◌, ◌⊎◌, ℕ, ◌+◌, ◌≤◌, Bool, true, false, not, List, [], ◌∷◌, ◌++◌, length, Option, Some, None, Result, Ok, Err, refl, sym, ap, subst, ◌∙◌, inl, inr, arith}
+use Rattle.std.proofs.Common.{◌≡◌, ◌⊎◌, ℕ, ◌+◌, ◌≤◌, true, false, not, List, [], ◌∷◌, ◌++◌, length, Option, Some, None, Result, Ok, Err, refl, sym, ap, subst, ◌∙◌, inl, inr, arith}
 use Rattle.std.specs.Prelude.{OnOk}
 use Rattle.std.specs.Option.{is_some}
-use Rattle.std.proofs.lemmas.Bool.{cases_Bool, cases_eq}
+use Rattle.std.proofs.lemmas.Bool.{false_from_ne_true, cases_Bool, cases_eq}
 use Rattle.bk_base.specs.declared.names.Kind.TheVariants.{Swap}
 use Rattle.bk_base.specs.declared.names.Name.{Name}
 use Rattle.bk_disk.specs.Names.{same}
@@ -224,13 +224,9 @@ may_take ids id r s n temp no_main output no_input = record {
   output = λ there. output_kept r s id (λ k. sym (n.lists k)) output;
   no_input = λ there input. no_input (input_kept s r id n.lists input);
 } where
-  off : (b : Bool) → (b ≡ true → ⊥) → b ≡ false
-  off true never = absurd (never refl)
-  off false never = refl
-
   go : IsPair r s id → is_some (s (main_temp id)) ≡ not (is_some (s (main id)))
   go (inl same) =
-      let absent : is_some (s (main id)) ≡ false = ap is_some same.1 ∙ off (is_some (r (main id))) no_main in
+      let absent : is_some (s (main id)) ≡ false = ap is_some same.1 ∙ false_from_ne_true (is_some (r (main id))) no_main in
       ap is_some same.0 ∙ temp ∙ sym (ap not absent)
   go (inr taken) = ap is_some taken.0 ∙ sym (ap not taken.1)
 

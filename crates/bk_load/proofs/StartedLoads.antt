@@ -1,11 +1,10 @@
 -- What was found and learned, as a store's start asks it.
-use Rattle.std.proofs.Common.{◌≡◌, ◌==◌, ◌⊎◌, ◌^◌, ℕ, ◌+◌, ◌<◌, ◌≤◌, Bool, true, false, cond, max, List, [], ◌∷◌, length, map, Option, Some, None, Result, Ok, Err, refl, sym, ap, subst, ◌∙◌, inl, inr, arith, eq-eqb, eqb-true}
+use Rattle.std.proofs.Common.{◌≡◌, ◌==◌, ◌⊎◌, ◌^◌, ℕ, ◌+◌, ◌<◌, ◌≤◌, Bool, true, false, cond, List, [], ◌∷◌, length, map, Option, Some, None, Result, Ok, Err, refl, sym, ap, subst, ◌∙◌, inl, inr, arith, eq-eqb}
 use Rattle.std.specs.Option.{is_some, unwrap_or}
 use Rattle.std.specs.Prelude.{IfOk, OnOk}
 use Rattle.std.specs.List.{AllByRecursion}
-use Rattle.std.proofs.lemmas.Bool.{cases_Bool, cases_eq, cases_lt, true≢false}
+use Rattle.std.proofs.lemmas.Bool.{cases_Bool, cases_eq, true≢false}
 use Rattle.std.proofs.lemmas.Bool.Decides.{nat_tests}
-use Rattle.bk_base.specs.declared.limits.TheConstants.{LAST_SEQ}
 use Rattle.bk_base.specs.declared.names.Name.{Name}
 use Rattle.bk_base.specs.declared.numbers.FileId.{FileId}
 use Rattle.bk_base.specs.declared.rows.Row.{Row}
@@ -13,11 +12,10 @@ use Rattle.bk_base.specs.declared.rows.RowState.TheVariants.{Active as active_st
 use Rattle.bk_base.specs.declared.rows.RowState.{RowState}
 use Rattle.bk_base.specs.declared.writes.Version.{Version}
 use Rattle.bk_disk.specs.Names.{same}
-use Rattle.bk_disk.specs.Told.{Image, IsAbsent, IsWell, Told, at, bytes_of, listing}
+use Rattle.bk_disk.specs.Told.{Image, IsAbsent, IsWell, Told, at, listing}
 use Rattle.bk_disk.proofs.Names.{same_eq}
 use Rattle.bk_files.specs.Catalog.{edited, row_of}
 use Rattle.bk_files.specs.Rows.{AreAtRest, AreSyncedIfSealed, IsAtRest, IsRowSyncedIfSealed}
-use Rattle.bk_image.specs.CountedFiles.{HasNoList}
 use Rattle.bk_image.specs.Readings.{Books, In, IsThere, Reading, main}
 use Rattle.bk_image.specs.RecoveredLog.{HintsTrue}
 use Rattle.bk_keydir.specs.declared.loads.Loaded.{Loaded}
@@ -27,7 +25,7 @@ use Rattle.bk_store.specs.Rows.{RowStands, RowsStand}
 use Rattle.bk_store.specs.Starting.{AreFilesOf, HasOnePut, IsInOrder}
 use Rattle.bk_load.specs.declared.files.FileFound.{FileFound}
 use Rattle.bk_load.specs.Assembling.{Assembled}
-use Rattle.bk_load.specs.Counting.{RowsRise, all_counted, counted_if, counted_in, top, with_put}
+use Rattle.bk_load.specs.Counting.{RowsRise, all_counted, counted_if, with_put}
 use Rattle.bk_load.specs.Directory.{greatest_in}
 use Rattle.bk_load.specs.Found.{AreFound, EndsWithin, FilesRise, HaveRead, IsFound, IsUncounted, KeepsFound, found_row, placed_in, total_of, writes_in}
 use Rattle.bk_load.specs.Learning.{AreFit, IsKept, IsLoneEntry, Known, greatest, newer, newest_in}
@@ -137,11 +135,6 @@ if_ok_map (Err e) P Q f p = tt
 pub on_ok_from : {T E : Type 0} (r : Result T E) (P : T → Type 0) (Q : Type 0) → Q → IfOk r P → OnOk r Q
 on_ok_from (Ok x) P Q q p = q
 on_ok_from (Err e) P Q q p = tt
-
--- no list comes
-pub no_list_still : (r s : Reading) → Tidied r s → HasNoList r → HasNoList s
-no_list_still r s tidied none l has =
-    none l (record { id = has.id; bytes = has.bytes; there = tidied.lists has.id has.bytes has.there; whole = has.whole })
 
 -- the rows of files whose ids rise
 pub rows_rise : (low : ℕ) (found : List FileFound) → FilesRise low found → RowsRise low (map found_row found)

@@ -96,7 +96,7 @@ pub counts_own : (r : Reading) (k : ℕ) (bytes : List ℕ) → 1 ≤ k → HasN
 counts_own r k bytes first none is =
     (Main, (ap is_some is, λ input. let (l, has, is_in) = input in none l has, first), is)
 
-with_first : (r : Reading) (k : ℕ) (bytes : List ℕ) → CountsWith r k bytes → 1 ≤ k
+pub with_first : (r : Reading) (k : ℕ) (bytes : List ℕ) → CountsWith r k bytes → 1 ≤ k
 with_first r k bytes (kind, c, is) = counts_first r (record { id = k; kind = kind }) c
 
 -- One file is gone

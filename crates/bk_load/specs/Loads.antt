@@ -1,6 +1,6 @@
 -- What recovery gives: the rows, the keydir, the last numbers and the report, by what the directory
 -- holds. It has no list any more, so each file under its own name counts that isn't numbered 0.
-use Rattle.std.specs.Prelude.{◌≡◌, ℕ, cond, min, List, [], map, count_by, Option, None, Some}
+use Rattle.std.specs.Prelude.{◌≡◌, ℕ, cond, min, List, map, count_by, Option, None, Some}
 use Rattle.std.specs.List.{AllByRecursion}
 use Rattle.bk_base.specs.declared.names.Name.{Name}
 use Rattle.bk_base.specs.declared.writes.Version.{Version}

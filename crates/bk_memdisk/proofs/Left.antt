@@ -7,7 +7,7 @@ use Rattle.std.specs.declared.option.Option.TheVariants.{None, Some}
 use Rattle.std.specs.Option.{is_some}
 use Rattle.std.proofs.lemmas.List.{length-append, length-take, length-drop, length-take-le, take_at}
 use Rattle.std.proofs.lemmas.List.{take_more, drop_more, get_or_append_left, get_or_past}
-use Rattle.std.proofs.lemmas.List.{get_or_push, get_or-take, take-append-drop, append_assoc}
+use Rattle.std.proofs.lemmas.List.{get_or_push, take-append-drop, append_assoc}
 use Rattle.std.proofs.lemmas.Bool.{cases_lt}
 use Rattle.bk_base.specs.declared.names.Name.{Name}
 use Rattle.bk_disk.specs.Names.{same}
@@ -61,13 +61,6 @@ bytes_push bytes b h small i =
                 simp length-append (omega arith) in rw get_or_past (omega arith)
             | inr le ↦ let here : length bytes ≡ i = omega (arith, ge, le) in rw get_or_push small
           ]
-    ]
-
-pub bytes_take : (n : ℕ) (bytes : List ℕ) → AreBytes bytes → AreBytes (take n bytes)
-bytes_take n bytes h i =
-    elim (cases_lt i n) [
-      | inl lt ↦ rw get_or-take (h i)
-      | inr ge ↦ let all : length (take n bytes) ≤ i = simp length-take (omega arith) in rw get_or_past (omega arith)
     ]
 
 -- the bytes of the files that are left

@@ -9,7 +9,6 @@ use Rattle.bk_base.specs.declared.rows.Row.{Row}
 use Rattle.bk_base.specs.declared.writes.Version.{Version}
 use Rattle.bk_base.specs.declared.writes.Write.{Write}
 use Rattle.bk_disk.specs.Told.{Told, at}
-use Rattle.bk_image.proofs.Places.{counts_first}
 use Rattle.bk_image.specs.CountedFiles.{Counts, HasNoList}
 use Rattle.bk_image.specs.Readings.{Books, In, Reading, bytes_in, hint, main}
 use Rattle.bk_image.specs.RecoveredLog.{HintTrue, HintsTrue, Recovers}
@@ -28,7 +27,7 @@ use Rattle.bk_load.specs.Tidying.{CountsWith, Tidied}
 use Rattle.bk_load.proofs.KeptKeys.{all_in}
 use Rattle.bk_load.proofs.KeptLogs.{counts_bytes, tidied_sound}
 use Rattle.bk_load.proofs.Recovered.{Held}
-use Rattle.bk_load.proofs.Tidied.{counts_own, own_name}
+use Rattle.bk_load.proofs.Tidied.{with_first, counts_own, own_name}
 use Rattle.bk_store.specs.Rows.{RowsStand}
 use Rattle.bk_store.specs.Starting.{IsInOrder}
 use Rattle.bk_report.specs.Directory.{AreCountedFiles, AreLiveBy, AreRead, HasLive, HasNewest, HasWhole, IsCountedFile, IsReportOf, ReportedFile, is_newest, records_in, row_in, size_in}
@@ -37,9 +36,6 @@ use Rattle.bk_report.proofs.CountedRows.{AreRowsOf, IsRowOf, each_reported, file
 use Rattle.bk_report.proofs.LiveBytes.{live_bytes, newest_bytes}
 
 -- ---- what two directories say where one was tidied
-
-with_first : (r : Reading) (id : ℕ) (bytes : List ℕ) → CountsWith r id bytes → 1 ≤ id
-with_first r id bytes (kind, c, is) = counts_first r (record { id = id; kind = kind }) c
 
 own_counts : (s : Reading) (id : ℕ) (bytes : List ℕ) → HasNoList s → CountsWith s id bytes → Counts s (main id)
 own_counts s id bytes none c =

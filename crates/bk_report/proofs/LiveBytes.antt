@@ -4,7 +4,7 @@ use Rattle.std.proofs.Common.{◌≡◌, ◌∙◌, ◌==◌, ◌&&◌, ℕ, ◌
 use Rattle.std.specs.List.{IsDistinct}
 use Rattle.std.specs.Map.{keys_of}
 use Rattle.std.specs.Str.{bytes_eq}
-use Rattle.std.proofs.lemmas.Bool.{true≢false}
+use Rattle.std.proofs.lemmas.Bool.{not-true, true≢false}
 use Rattle.bk_base.specs.declared.names.Name.{Name}
 use Rattle.bk_base.specs.declared.numbers.FileId.{FileId}
 use Rattle.bk_base.specs.declared.numbers.Seq.{Seq}
@@ -158,7 +158,7 @@ module _ (books : Books) (found : List _) (l : Loaded) (says : SaysAsRead books 
     go (Some v) newest is =
         let (kept, rest) = both (not v.gone) ((v.file.0 == p.1.file.0) && (v.at == p.1.at)) is in
         let (files, places) = both (v.file.0 == p.1.file.0) (v.at == p.1.at) rest in
-        let put = not_gone v.gone kept in
+        let put = not-true v.gone kept in
         let (e, there, same, first) = key_loaded books found l says lone order p.0 v newest put in
         record {
           entry = e;
@@ -172,10 +172,7 @@ module _ (books : Books) (found : List _) (l : Loaded) (says : SaysAsRead books 
                 ∙ ap (λ (i : FileId). i.0) (placed_of file 0 (books (main file.0)) p is_in);
             mark_is = eqb-true v.at p.1.at places;
           };
-        } where
-          not_gone : (b : Bool) → not b ≡ true → b ≡ false
-          not_gone true never = absurd (true≢false (sym never))
-          not_gone false never = refl
+        }
 
   pub newest_bytes : IsDistinct bytes_eq (keys_of l.keydir.entries)
       → live_of file.0 l.keydir.entries

@@ -3,7 +3,7 @@ use Rattle.std.proofs.Common.{◌≡◌, ◌∙◌, ◌==◌, ◌⊎◌, ◌&&�
 use Rattle.std.specs.List.{IsDistinct}
 use Rattle.std.specs.Map.{keys_of}
 use Rattle.std.specs.Str.{bytes_eq}
-use Rattle.std.proofs.lemmas.Bool.{cases_Bool, true≢false}
+use Rattle.std.proofs.lemmas.Bool.{not-true, false_from_ne_true, cases_Bool, true≢false}
 use Rattle.std.proofs.lemmas.Map.Keys.{IsDistinct-head, IsDistinct-tail}
 use Rattle.bk_base.specs.declared.writes.Version.{Version}
 use Rattle.bk_image.specs.Readings.{In}
@@ -38,16 +38,8 @@ same_test true b there back = sym (there refl)
 same_test false true there back = back refl
 same_test false false there back = refl
 
-off : (b : Bool) → (b ≡ true → ⊥) → b ≡ false
-off true never = absurd (never refl)
-off false never = refl
-
 pub put_here : (id : ℕ) (v : Version) → v.gone ≡ false → v.file.0 ≡ id → is_put_in id v ≡ true
 put_here id v put file = and_true (not v.gone) (v.file.0 == id) (ap not put) (eq-eqb v.file.0 id file)
-
-not_gone : (b : Bool) → not b ≡ true → b ≡ false
-not_gone true is = absurd (true≢false (sym is))
-not_gone false is = refl
 
 in_keys : (es : List Entry) (e : Entry) → In e es → In e.0 (keys_of es)
 in_keys [] e is_in = absurd is_in
@@ -91,7 +83,7 @@ module _ {X : Type 0} (size : X → ℕ) (key_of : X → List ℕ) (mark : X →
       let (kept, file) = both (not v.gone) (v.file.0 == id) put in
       record {
         key_is = key_is (key_of x) key same;
-        put = not_gone v.gone kept;
+        put = not-true v.gone kept;
         file = eqb-true v.file.0 id file;
         mark_is = eqb-true (mark_of v) (mark x) marks;
       }
@@ -163,10 +155,10 @@ module _ {X : Type 0} (size : X → ℕ) (key_of : X → List ℕ) (mark : X →
             → sum_where size (names_by e.0 (Some f.version)) xs ≡ bytes_if id (Some f.version)
         elsewhere t =
             let no_put : is_put_in id f.version ≡ false =
-            off (is_put_in id f.version) (λ put. true≢false
+            false_from_ne_true (is_put_in id f.version) (λ put. true≢false
             (sym (both (not f.version.gone) (f.version.file.0 == id) put).1 ∙ t)) in
             where_none size (names_by e.0 (Some f.version)) xs (λ x x_in.
-            off (names_by e.0 (Some f.version) x) (λ is. true≢false
+            false_from_ne_true (names_by e.0 (Some f.version) x) (λ is. true≢false
             (sym (put_here id f.version f.put (named_by e.0 f.version x is).file) ∙ no_put)))
             ∙ ap (λ (b : Bool). cond b f.version.size 0) (sym no_put)
 

@@ -1,9 +1,8 @@
 -- What the rows of a store say of its active file, and what a point of a history has of them.
-use Rattle.std.proofs.Common.{◌≡◌, ◌∙◌, ℕ, suc, ◌+◌, Bool, true, false, List, [], ◌∷◌, ◌++◌, length, Option, Some, None, refl, sym, ap, subst}
+use Rattle.std.proofs.Common.{◌≡◌, ◌∙◌, ℕ, suc, ◌+◌, Bool, true, false, List, [], ◌∷◌, ◌++◌, length, Option, Some, None, refl, sym, ap}
 use Rattle.std.specs.Prelude.{IsTrue, map, sum_by, ◌≢◌}
 use Rattle.std.proofs.lemmas.List.Sums.{sum_by-cons}
 use Rattle.bk_base.specs.declared.histories.Opening.{Opening}
-use Rattle.bk_base.specs.declared.histories.Snapshot.{Snapshot}
 use Rattle.bk_base.specs.declared.histories.Step.{Step}
 use Rattle.bk_base.specs.declared.rows.Row.{Row}
 use Rattle.bk_base.specs.declared.rows.RowState.{RowState}

@@ -1,10 +1,10 @@
 -- How a listing ends, and what its request shows then.
 use Rattle.std.proofs.Common.{◌≡◌, ◌∙◌, ℕ, ◌+◌, ◌-◌, ◌<◌, ◌≤◌, Bool, true, false, List, [], ◌∷◌, ◌++◌, length}
-use Rattle.std.proofs.Common.{Option, Some, None, refl, sym, ap, subst, arith, inl, inr}
+use Rattle.std.proofs.Common.{Option, Some, refl, sym, ap, subst, arith, inl, inr}
 use Rattle.std.specs.Prelude.{IsTrue, ◌≢◌, is_some}
-use Rattle.std.specs.List.{AllByRecursion, flat_map}
+use Rattle.std.specs.List.{flat_map}
 use Rattle.std.proofs.lemmas.Bool.{true≢false}
-use Rattle.std.proofs.lemmas.List.{append-nil, append_assoc, length-append, map-append}
+use Rattle.std.proofs.lemmas.List.{append-nil, length-append, map-append}
 use Rattle.bk_base.specs.declared.histories.Opening.{Opening}
 use Rattle.bk_base.specs.declared.histories.Step.{Step}
 use Rattle.bk_base.specs.declared.numbers.Moment.{Moment}
@@ -14,12 +14,12 @@ use Rattle.bk_base.specs.declared.requests.Full.TheVariants.{Folds, Turns}
 use Rattle.bk_base.specs.declared.limits.TheConstants.{MOST_FOLDS}
 use Rattle.bk_base.specs.declared.requests.Request.{Request}
 use Rattle.bk_base.specs.declared.writes.Write.{Write}
-use Rattle.bk_disk.specs.Told.{Told, clock}
+use Rattle.bk_disk.specs.Told.{clock}
 use Rattle.bk_exchange.specs.Answers.{Answers, Context, own_calls}
-use Rattle.bk_exchange.specs.Exchanges.{Exchange, IsCut, IsExchange, asked_in, asks_clock, last_of, moment_of}
-use Rattle.bk_exchange.specs.Listings.{Row, closing_call, end_call, listing_calls, row_line, row_lines}
+use Rattle.bk_exchange.specs.Exchanges.{IsExchange, asked_in, asks_clock, last_of, moment_of}
+use Rattle.bk_exchange.specs.Listings.{Row, closing_call, end_call, row_line, row_lines}
 use Rattle.bk_exchange.specs.Answers.{Lists}
-use Rattle.bk_exchange.specs.OneThread.{IsOwn, QuietCalls, quiet_in}
+use Rattle.bk_exchange.specs.OneThread.{QuietCalls, quiet_in}
 use Rattle.bk_exchange.specs.Points.{AtOne, Event, Point, Said, events, own, point_after, point_of}
 use Rattle.bk_exchange.specs.Refusals.{Breaks, Cause, ClosesIf, Fails, NoSlotIsFree, closes_after, is_listing, is_quit}
 use Rattle.bk_exchange.specs.Refusals.{may_drop, may_refuse}
@@ -38,18 +38,20 @@ use Rattle.bk_session.specs.declared.listings.Given.TheVariants.{Row as given_ro
 use Rattle.bk_session.specs.declared.listings.Listing.{Listing}
 use Rattle.bk_session.specs.declared.listings.Listing.TheVariants.{Keys, Pairs}
 use Rattle.bk_session.specs.declared.serving.Onward.{Onward}
-use Rattle.bk_session.specs.declared.serving.Onward.TheVariants.{Next, Quit, Sink as sink_failed, Memory as no_memory}
+use Rattle.bk_session.specs.declared.serving.Onward.TheVariants.{Next, Quit, Sink as sink_failed}
 use Rattle.bk_session.specs.Following.{Follows, own_context}
-use Rattle.bk_session.specs.Listing.{Begun, BreaksAt, Closes, Ended, EndsAll, Gives, IsOurs, IsUnmoved, Listed, Rows}
+use Rattle.bk_session.specs.Listing.{Begun, BreaksAt, Closes, Ended, EndsAll, Gives, IsOurs, Listed, Rows}
 use Rattle.bk_session.specs.Listing.{request_of, rows_text}
 use Rattle.bk_session.specs.Outgoing.{Outgoing, Sends, Stops}
 use Rattle.bk_session.specs.Replying.{exchange_of}
-use Rattle.bk_session.specs.Serving.{IsServedAs, SessionState, SendsAs, Served, Serves, Tells}
+use Rattle.bk_session.specs.Serving.{SessionState, SendsAs, Serves, Tells}
 use Rattle.bk_session.proofs.Events.{at_event, counts_of, is_step_of, rises_by_faults, step_of}
 use Rattle.bk_session.proofs.FoldCalls.{same_clock}
 use Rattle.bk_session.proofs.Following.{follows_still}
 use Rattle.bk_session.proofs.Texts.{sends_lines, sends_none}
 use Rattle.bk_session.proofs.OneLine.{as_served, at_told, sends_line}
+use Rattle.bk_exchange.proofs.Causes.{last-append}
+use Rattle.bk_session.proofs.FoldRows.{may_memory}
 
 -- ---- what the two requests share
 
@@ -88,11 +90,6 @@ closes_if : (b : Bool) (slot : ℕ) (dropped : List Row) (behind : List Said) �
 closes_if true slot dropped behind is h = h
 closes_if false slot dropped behind is h = absurd (true≢false (sym is))
 
-last_behind : (lines : List Reply) (line : Reply) → last_of (lines ++ line ∷ []) ≡ Some line
-last_behind [] line = refl
-last_behind (first ∷ []) line = refl
-last_behind (first ∷ next ∷ lines) line = last_behind (next ∷ lines) line
-
 -- a listing that was cut has no quiet call
 quiet_rows : (listing : Listing) (rows : List Row) → QuietCalls (last_of (row_lines (request_of listing) rows)) 0
 quiet_rows listing [] = refl
@@ -124,7 +121,7 @@ ended_by disk sink listing onward b slot v given rows behind quiet steps line ou
       own = record {
         alone = l.alone;
         few = λ other. absurd (true≢false (sym (list_is listing) ∙ other));
-        quiet = subst (λ (o : Option Reply). QuietCalls o (quiet_in steps)) (sym (last_behind (row_lines request rows) line))
+        quiet = subst (λ (o : Option Reply). QuietCalls o (quiet_in steps)) (sym (last-append (row_lines request rows) line))
             (subst (QuietCalls (Some line)) (sym l.quiet_calls) counts);
       };
       follows = l.follows;
@@ -286,10 +283,6 @@ may_be_full_folds : (listing : Listing) → may_refuse (request_of listing) (Ful
 may_be_full_folds Keys = refl
 may_be_full_folds Pairs = refl
 
-may_memory : (listing : Listing) → may_drop (request_of listing) Memory 0 ≡ true
-may_memory Keys = refl
-may_memory Pairs = refl
-
 -- after any rows the listing may end for memory
 pub breaks_for_memory : (disk : Bool) (listing : Listing) (b : Begun) (slot : ℕ) (v : Shown) (rows : List Row) (steps : List Step)
     → Listed disk b slot v rows [] 0 steps → BreaksAt disk (request_of listing) b slot v rows Memory
@@ -298,10 +291,8 @@ breaks_for_memory disk listing b slot v rows steps l = record {
   dropped = [];
   quiet = 0;
   listed = subst (λ (given : List Row). Listed disk b slot v given [] 0 steps) (sym (append-nil rows)) l;
-  few = omega arith;
   may = may_memory listing;
   closes = refl;
-  no_row = refl;
   counts = omega arith;
   cause = tt;
 }

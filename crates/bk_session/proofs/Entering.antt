@@ -1,5 +1,5 @@
 -- A store that has loaded nothing but its numbers follows a history over a disk that doesn't tell what it holds.
-use Rattle.std.proofs.Common.{◌≡◌, ℕ, List, [], ◌∷◌, Bool, true, false, None, refl, sym, ap, arith}
+use Rattle.std.proofs.Common.{◌≡◌, ℕ, List, [], ◌∷◌, true, false, None, refl, sym, ap, arith}
 use Rattle.std.specs.Prelude.{is_some}
 use Rattle.bk_base.specs.declared.histories.Opening.{Opening}
 use Rattle.bk_base.specs.declared.writes.Body.TheVariants.{Gone}

@@ -1,11 +1,10 @@
 -- From an event of the store to the line that answers its request.
-use Rattle.std.proofs.Common.{◌≡◌, ◌∙◌, ◌⊎◌, ℕ, ◌+◌, ◌-◌, ◌≤◌, Bool, true, false, List, [], ◌∷◌, ◌++◌, Option, Some, None}
+use Rattle.std.proofs.Common.{◌≡◌, ◌∙◌, ℕ, ◌+◌, ◌-◌, ◌≤◌, Bool, true, false, List, [], ◌∷◌, ◌++◌, Option, Some}
 use Rattle.std.proofs.Common.{refl, sym, ap, subst, arith, inl, inr}
 use Rattle.std.specs.Prelude.{IsTrue}
 use Rattle.bk_base.specs.declared.calls.Answer.{Answer}
-use Rattle.bk_base.specs.declared.calls.Answer.TheVariants.{Done, Numbered as numbered_answer}
+use Rattle.bk_base.specs.declared.calls.Answer.TheVariants.{Numbered as numbered_answer}
 use Rattle.bk_base.specs.declared.calls.Call.{Call}
-use Rattle.bk_base.specs.declared.calls.Call.TheVariants.{Quiet}
 use Rattle.bk_base.specs.declared.calls.Entry.{Entry}
 use Rattle.bk_base.specs.declared.histories.Opening.{Opening}
 use Rattle.bk_base.specs.declared.histories.Snapshot.{Snapshot}
@@ -15,33 +14,32 @@ use Rattle.bk_base.specs.declared.limits.TheConstants.{LAST_FILE, LAST_SEQ}
 use Rattle.bk_base.specs.declared.numbers.Moment.{Moment}
 use Rattle.bk_base.specs.declared.numbers.Seq.{Seq}
 use Rattle.bk_base.specs.declared.requests.Reply.{Reply}
-use Rattle.bk_base.specs.declared.requests.Reply.TheVariants.{Numbered, Disk}
+use Rattle.bk_base.specs.declared.requests.Reply.TheVariants.{Numbered}
 use Rattle.bk_base.specs.declared.requests.Request.{Request}
 use Rattle.bk_base.specs.declared.writes.Write.{Write}
 use Rattle.bk_disk.specs.Causes.{Rose}
 use Rattle.bk_disk.specs.Counts.{Counted}
 use Rattle.bk_disk.specs.Crashes.{AtEach}
-use Rattle.bk_disk.specs.Told.{clock, untold}
+use Rattle.bk_disk.specs.Told.{clock}
 use Rattle.bk_disk.proofs.Counts.{counted_at_least, counted_exactly, counted_rise, counts_rose}
 use Rattle.bk_exchange.specs.Answers.{Context}
 use Rattle.bk_exchange.specs.Exchanges.{Replies, moment_of}
 use Rattle.bk_exchange.specs.OneThread.{QuietCalls, one_if_quiet}
 use Rattle.bk_exchange.specs.Points.{AtOne, Event, Point, events, own, point_of}
-use Rattle.bk_exchange.specs.Refusals.{Cause, HasNoFile, active_len, may_refuse, needs_file, size_asked}
+use Rattle.bk_exchange.specs.Refusals.{HasNoFile, active_len, needs_file, size_asked}
 use Rattle.bk_exchange.specs.Writes.{told_by, write_asked}
-use Rattle.bk_exchange.proofs.Bodies.{at_own, one_refusal}
+use Rattle.bk_exchange.proofs.Bodies.{at_own}
 use Rattle.bk_exchange.proofs.Events.{state_of_point}
-use Rattle.bk_files.specs.Files.{IsConsistent, is_due}
+use Rattle.bk_files.specs.Files.{is_due}
 use Rattle.bk_image.specs.Prefix.{MeetsEither}
-use Rattle.bk_keydir.specs.declared.slots.Slot.{Slot}
 use Rattle.bk_laws.specs.History.{State, changed, log_of, state_after}
 use Rattle.bk_laws.specs.Log.{last_seq}
-use Rattle.bk_store.specs.Events.{CrashMeets, GoesOn, IsLeft, IsStepOf, Keeps, KeepsPast, clock_of, entry_by, quiet_by}
-use Rattle.bk_store.specs.History.{kept_of, last_snapshot}
-use Rattle.bk_store.specs.Shown.{Shown, settings_of}
+use Rattle.bk_store.specs.Events.{CrashMeets, GoesOn, IsStepOf, Keeps, KeepsPast, clock_of, entry_by}
+use Rattle.bk_store.specs.History.{kept_of}
+use Rattle.bk_store.specs.Shown.{Shown}
 use Rattle.bk_store.specs.Standing.{StandsFor}
 use Rattle.bk_session.specs.Following.{Agrees, Follows, own_context, snapshot_in}
-use Rattle.bk_session.specs.Replying.{Replied, RepliesOnce, exchange_of}
+use Rattle.bk_session.specs.Replying.{RepliesOnce, exchange_of}
 use Rattle.bk_session.specs.Serving.{Tries}
 use Rattle.bk_session.proofs.ActiveRows.{last_in, needs_in, snapshot_of_point}
 use Rattle.bk_session.proofs.Following.{Counts, KeepsSettings, follows_still, follows_write, snapshot_told}

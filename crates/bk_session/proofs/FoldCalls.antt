@@ -1,33 +1,29 @@
 -- A listing, one call after the other.
-use Rattle.std.proofs.Common.{◌≡◌, ◌∙◌, ℕ, zero, suc, ◌+◌, ◌-◌, ◌<◌, ◌≤◌, ◌==◌, Bool, true, false, cond, List, [], ◌∷◌, ◌++◌, length, drop}
-use Rattle.std.proofs.Common.{Option, Some, None, refl, sym, ap, subst, arith, inl, inr, eq-eqb}
-use Rattle.std.specs.Prelude.{IsErr, IsTrue, OnOk, Result, Ok, Err, slice_set, ◌≢◌}
+use Rattle.std.proofs.Common.{◌≡◌, ◌∙◌, ℕ, ◌+◌, ◌-◌, ◌<◌, Bool, cond, List, [], ◌∷◌, ◌++◌, length}
+use Rattle.std.proofs.Common.{Option, Some, None, refl, ap, subst, arith, eq-eqb}
+use Rattle.std.specs.Prelude.{IsErr, IsTrue, OnOk, Result, Ok, Err, slice_set}
 use Rattle.std.specs.List.{AllByRecursion}
-use Rattle.std.proofs.lemmas.List.{append-nil, append_assoc}
+use Rattle.std.proofs.lemmas.List.{append_assoc}
 use Rattle.bk_base.specs.declared.calls.Answer.{Answer}
-use Rattle.bk_base.specs.declared.calls.Answer.TheVariants.{Done, End, Fold as fold_answer, Pair}
+use Rattle.bk_base.specs.declared.calls.Answer.TheVariants.{Done, Fold as fold_answer, Pair}
 use Rattle.bk_base.specs.declared.calls.Call.{Call}
-use Rattle.bk_base.specs.declared.calls.Call.TheVariants.{FoldClose, FoldNext, FoldOpen, Quiet}
-use Rattle.bk_base.specs.declared.calls.Entry.{Entry}
-use Rattle.bk_base.specs.declared.histories.OpenFold.{OpenFold}
+use Rattle.bk_base.specs.declared.calls.Call.TheVariants.{FoldClose, FoldNext, FoldOpen}
 use Rattle.bk_base.specs.declared.histories.Opening.{Opening}
 use Rattle.bk_base.specs.declared.histories.Step.{Step}
 use Rattle.bk_base.specs.declared.numbers.Moment.{Moment}
-use Rattle.bk_base.specs.declared.numbers.Seq.{Seq}
 use Rattle.bk_base.specs.declared.writes.Write.{Write}
 use Rattle.bk_disk.specs.Told.{Front, Table, Told, clock}
 use Rattle.bk_exchange.specs.Answers.{own_calls}
-use Rattle.bk_exchange.specs.Listings.{Row, closing_call, end_call, listing_calls}
+use Rattle.bk_exchange.specs.Listings.{Row, closing_call, listing_calls}
 use Rattle.bk_exchange.specs.OneThread.{one_if_quiet}
 use Rattle.bk_exchange.specs.Points.{Said, events, heard, point_of}
 use Rattle.bk_exchange.proofs.Bodies.{listing_behind, listing_on, listing_opened}
 use Rattle.bk_exchange.proofs.OneCaller.{alone_on, quiet_on}
 use Rattle.bk_keydir.specs.declared.slots.Slot.{Slot}
-use Rattle.bk_keydir.specs.Slots.{opened, past, slot_at, who_of}
-use Rattle.bk_keydir.specs.Keydir.{Shown as KeydirShown}
+use Rattle.bk_keydir.specs.Slots.{opened, slot_at, who_of}
 use Rattle.bk_laws.specs.History.{State, changed, state_after}
 use Rattle.bk_store.specs.declared.folds.Fold.{Fold}
-use Rattle.bk_store.specs.Events.{Keeps, KeepsPast, clock_of, entry_by, quiet_by}
+use Rattle.bk_store.specs.Events.{Keeps, clock_of, entry_by}
 use Rattle.bk_store.specs.FoldEvents.{IsClosed, IsOpened}
 use Rattle.bk_store.specs.Loans.{Lent, Views, ViewsNothing}
 use Rattle.bk_store.specs.Shown.{Shown}
@@ -36,9 +32,10 @@ use Rattle.bk_files.specs.Files.{Seen}
 use Rattle.bk_session.specs.Following.{Follows, own_context}
 use Rattle.bk_session.specs.Listing.{Begun, IsOurs, IsUnmoved, Listed}
 use Rattle.bk_session.specs.Serving.{IsSince}
-use Rattle.bk_session.proofs.Events.{Rises, Still, counts_of, is_step_of, no_views, rises_by_faults, step_of}
+use Rattle.bk_session.proofs.Events.{Rises, Still, counts_of, is_step_of, rises_by_faults, step_of}
 use Rattle.bk_session.proofs.Following.{KeepsSettings, agrees_on, closed_slots, follows_still, listed_slots, opened_slots}
 use Rattle.bk_session.proofs.OneLine.{at_told}
+use Rattle.bk_store.proofs.FoldSteps.{slot_within}
 
 -- ---- what the disk told
 
@@ -115,11 +112,6 @@ listed_still disk b slot v u rows call answer faults steps l rises still same ke
 
 -- ---- slots
 
-pub low_slot : (slots : List (Option Slot)) (n : ℕ) (s : Slot) → slot_at slots n ≡ Some s → n < length slots
-low_slot [] n s is = absurd (cc is)
-low_slot (x ∷ slots) zero s is = omega arith
-low_slot (x ∷ slots) (suc n) s is = omega (arith, low_slot slots n s is)
-
 -- what stands in a slot that was set
 pub set_here : (slots : List (Option Slot)) (n : ℕ) (x : Option Slot) → n < length slots → slot_at (slice_set slots n x) n ≡ x
 set_here slots n x low =
@@ -150,7 +142,7 @@ listed_pair disk b slot v u rows key value s x faults views steps l rises kept s
       agrees = agrees_on disk v u b.opening h step e l.follows.agrees (counts_of disk e faults views v u rises) refl kept
           (seq ∙ l.follows.agrees.seq)
           (listed_slots disk v b.opening h 0 slot key value s x u.keys.slots l.follows.agrees
-          (low_slot v.keys.slots slot s there) there slots);
+          (slot_within v.keys.slots slot s there) there slots);
       stands = λ tell. keeps tell b.opening h b.tried step (l.follows.stands tell)
           (is_step_of disk e faults views v u tell rises) refl;
       whole = l.follows.whole;
@@ -244,7 +236,7 @@ listed_closed disk b slot v u given behind quiet steps l ours is keeps =
           (record {
             agrees = agrees_on disk v u b.opening h step e l.follows.agrees (counts_of disk e faults 0 v u rises) refl kept
                 (ap (λ (y : Shown). y.seq) is ∙ l.follows.agrees.seq)
-                (closed_slots disk v b.opening h 0 slot u.keys.slots l.follows.agrees (low_slot v.keys.slots slot s there) slots);
+                (closed_slots disk v b.opening h 0 slot u.keys.slots l.follows.agrees (slot_within v.keys.slots slot s there) slots);
             stands = λ tell. keeps tell b.opening h b.tried step (l.follows.stands tell)
                 (is_step_of disk e faults 0 v u tell rises) refl;
             whole = l.follows.whole;

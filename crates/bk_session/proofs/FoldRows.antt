@@ -1,29 +1,26 @@
 -- The next pair of a fold, from what the store gave to its row.
-use Rattle.std.proofs.Common.{◌≡◌, ◌∙◌, ℕ, ◌+◌, ◌-◌, ◌≤◌, Bool, true, false, List, [], ◌∷◌, ◌++◌, length, drop}
+use Rattle.std.proofs.Common.{◌≡◌, ◌∙◌, ℕ, ◌-◌, ◌≤◌, Bool, true, List, [], ◌∷◌, ◌++◌, drop}
 use Rattle.std.proofs.Common.{Option, Some, None, refl, sym, ap, subst, arith, inl, inr}
-use Rattle.std.specs.Prelude.{IsTrue, slice_set, ◌≢◌}
-use Rattle.std.proofs.lemmas.Bool.{cases_Bool}
+use Rattle.std.specs.Prelude.{IsTrue, slice_set}
+use Rattle.std.proofs.lemmas.Bool.{false_from_ne_true}
 use Rattle.std.proofs.lemmas.List.{append-nil}
 use Rattle.bk_base.specs.declared.calls.Answer.TheVariants.{Done, End, Pair}
 use Rattle.bk_base.specs.declared.calls.Call.TheVariants.{FoldNext, Quiet}
 use Rattle.bk_base.specs.declared.histories.Opening.{Opening}
 use Rattle.bk_base.specs.declared.histories.Step.{Step}
 use Rattle.bk_base.specs.declared.requests.Reply.{Reply}
-use Rattle.bk_base.specs.declared.requests.Reply.TheVariants.{Damaged, Disk, Memory, Read, Key as key_line, Pair as pair_line}
+use Rattle.bk_base.specs.declared.requests.Reply.TheVariants.{Damaged, Disk, Memory, Read}
 use Rattle.bk_base.specs.declared.requests.Request.{Request}
 use Rattle.bk_base.specs.declared.requests.Request.TheVariants.{Fold as fold_request, Keys as keys_request}
 use Rattle.bk_base.specs.declared.writes.Write.{Write}
-use Rattle.bk_disk.specs.Causes.{Rose}
-use Rattle.bk_exchange.specs.Listings.{Row, end_call, row_line}
+use Rattle.bk_exchange.specs.Listings.{Row, row_line}
 use Rattle.bk_exchange.specs.Points.{AtOne, Event, events, own, point_after, point_of}
-use Rattle.bk_exchange.specs.Exchanges.{is_row}
 use Rattle.bk_exchange.specs.Refusals.{Cause, closes_after, may_drop}
 use Rattle.bk_exchange.specs.OneThread.{QuietCalls}
 use Rattle.bk_exchange.proofs.Events.{events-append, own-append, own_behind}
 use Rattle.bk_keydir.specs.declared.slots.Slot.{Slot}
 use Rattle.bk_keydir.specs.Slots.{past, slot_at, who_of}
 use Rattle.bk_laws.specs.History.{log_of}
-use Rattle.bk_laws.specs.Log.{cut_at, winner}
 use Rattle.bk_laws.specs.Wire.{reply_text}
 use Rattle.bk_store.specs.declared.errors.FoldError.{FoldError}
 use Rattle.bk_store.specs.declared.errors.FoldError.TheVariants.{Disk as fold_disk, Memory as fold_memory, NoFold}
@@ -42,11 +39,12 @@ use Rattle.bk_session.specs.declared.listings.Given.TheVariants.{Row as given_ro
 use Rattle.bk_session.specs.declared.listings.Listing.{Listing}
 use Rattle.bk_session.specs.declared.listings.Listing.TheVariants.{Keys, Pairs}
 use Rattle.bk_session.specs.Following.{Follows, own_context}
-use Rattle.bk_session.specs.Listing.{Begun, BreaksAt, Gives, GoesOn, IsOurs, IsUnmoved, Listed, ShowsKey, ShowsPair, request_of}
+use Rattle.bk_session.specs.Listing.{Begun, BreaksAt, Gives, RowsGoOn, IsOurs, IsUnmoved, Listed, ShowsKey, ShowsPair, request_of}
 use Rattle.bk_session.specs.Refusing.{line_of_fold}
 use Rattle.bk_session.specs.Outgoing.{Outgoing, Sends, Stops}
 use Rattle.bk_session.proofs.Events.{Rises, Still, rises_by_fault, rises_by_faults, step_of}
-use Rattle.bk_session.proofs.FoldCalls.{listed_pair, listed_still, low_slot, set_here, unmoved_same}
+use Rattle.bk_session.proofs.FoldCalls.{listed_pair, listed_still, set_here, unmoved_same}
+use Rattle.bk_store.proofs.FoldSteps.{slot_within}
 use Rattle.bk_session.proofs.FoldCalls.{unmoved_views}
 use Rattle.bk_session.proofs.Following.{KeepsSettings}
 use Rattle.bk_session.proofs.Reading.{RisesByView, rises_by_view, still_files}
@@ -69,12 +67,6 @@ at_last b steps step P caller fact =
         → AtOne P (es ++ (record { before = point_after (point_of b.opening b.before) steps; step = step }) ∷ [])
     behind [] = inl fact
     behind (e ∷ es) = inr (behind es)
-
-not_whole : (o : Opening) → (o.whole ≡ true → ⊥) → o.whole ≡ false
-not_whole o never = elim (cases_Bool o.whole) [
-  | inl p ↦ absurd (never p)
-  | inr p ↦ p
-]
 
 -- ---- the event
 
@@ -105,7 +97,7 @@ pub pair_unread : {V : Type 0} (slot : ℕ) (v u : Shown) (row : Row2 V) → Lis
 pair_unread slot v u row lists =
     let (s, there, pair) = lists_pair slot (slot_at v.keys.slots slot) v u row lists.4 in pair.lends.rest
 
-lends_checked : {V : Type 0} (o : Option Slot) (log : List Write) (row : Row2 V) → LendsPairOf o log (Some row)
+pub lends_checked : {V : Type 0} (o : Option Slot) (log : List Write) (row : Row2 V) → LendsPairOf o log (Some row)
     → check_of row.loan.left ≡ row.loan.crc
 lends_checked None log row h = absurd h
 lends_checked (Some s) log row h = h.2.crc
@@ -162,7 +154,7 @@ pub pair_ours : (disk : Bool) (slot : ℕ) (v u : Shown) (key : List ℕ) (l : L
     → IsOurs slot u
 pair_ours disk slot v u key l e ours =
     ap (λ (slots : List (Option Slot)). who_of (slot_at slots slot)) e.slots
-    ∙ ap who_of (set_here v.keys.slots slot (Some e.x) (low_slot v.keys.slots slot e.s e.there))
+    ∙ ap who_of (set_here v.keys.slots slot (Some e.x) (slot_within v.keys.slots slot e.s e.there))
     ∙ ap (λ (n : ℕ). Some n) e.same_who ∙ sym (ap who_of e.there) ∙ ours
 
 -- ---- the row of a pair
@@ -181,22 +173,20 @@ module _ (disk sink : Bool) (slot : ℕ) (v u : Shown) (key : List ℕ) (l : Len
 
   -- the pair was given and has no row
   dropped_with : (request : Request) (b : Begun) (rows : List Row) (steps : List Step) (line : Reply)
-      → Listed disk b slot v rows [] 0 steps → may_drop request line 1 ≡ true → closes_after line ≡ true → is_row line ≡ false
+      → Listed disk b slot v rows [] 0 steps → may_drop request line 1 ≡ true → closes_after line ≡ true
       → QuietCalls (Some line) 0
       → Cause (own_context b.opening) request line (events (point_of b.opening b.before)
       (steps ++ step_of disk (entry_by 0 (FoldNext slot) (Pair key (drop l.value_at l.left))) (u.files.faults - v.files.faults)
       e.view.n u ∷ []))
       → BreaksAt disk request b slot u rows line
-  dropped_with request b rows steps line listed may closes no_row counts cause = record {
+  dropped_with request b rows steps line listed may closes counts cause = record {
     steps = steps ++ step_of disk (entry_by 0 (FoldNext slot) (Pair key (drop l.value_at l.left)))
         (u.files.faults - v.files.faults) e.view.n u ∷ [];
     dropped = (record { key = key; value = drop l.value_at l.left }) ∷ [];
     quiet = 0;
     listed = listed_with b rows steps (drop l.value_at l.left) (λ tell. refl) listed;
-    few = omega arith;
-    may = may;
+      may = may;
     closes = closes;
-    no_row = no_row;
     counts = counts;
     cause = cause;
   }
@@ -204,7 +194,7 @@ module _ (disk sink : Bool) (slot : ℕ) (v u : Shown) (key : List ℕ) (l : Len
   goes_on_with : (request : Request) (b : Begun) (rows : List Row) (steps : List Step) (value : List ℕ)
       (Out : List ℕ → Type 0) → (IsTrue disk → value ≡ drop l.value_at l.left) → Listed disk b slot v rows [] 0 steps
       → Out (reply_text (row_line request (record { key = key; value = value })))
-      → GoesOn disk request b slot u rows Out
+      → RowsGoOn disk request b slot u rows Out
   goes_on_with request b rows steps value Out is listed out = record {
     steps = steps ++ step_of disk (entry_by 0 (FoldNext slot) (Pair key value)) (u.files.faults - v.files.faults) e.view.n u ∷ [];
     row = record { key = key; value = value };
@@ -223,7 +213,7 @@ module _ (disk sink : Bool) (slot : ℕ) (v u : Shown) (key : List ℕ) (l : Len
     shows.1,
     λ b rows steps listed.
         subst (λ (x : Reply). BreaksAt disk keys_request b slot u rows x) (sym shows.0)
-        (dropped_with keys_request b rows steps Memory listed refl refl refl (omega arith) tt),
+        (dropped_with keys_request b rows steps Memory listed refl refl (omega arith) tt),
   )
   gives_key Sink out new shows =
       λ b rows steps listed. goes_on_with keys_request b rows steps (drop l.value_at l.left)
@@ -248,14 +238,14 @@ module _ (disk sink : Bool) (slot : ℕ) (v u : Shown) (key : List ℕ) (l : Len
   gives_pair views given_end out new hears shows = absurd shows.2
   gives_pair views (Line Read) out new hears shows = (
     shows.1,
-    λ b rows steps listed. dropped_with fold_request b rows steps Read listed refl refl refl refl
+    λ b rows steps listed. dropped_with fold_request b rows steps Read listed refl refl refl
         (view_at_last b steps shows.0),
   )
   gives_pair views (Line (Damaged file at kept found)) out new hears shows = (
     shows.1,
-    λ b rows steps listed. dropped_with fold_request b rows steps (Damaged file at kept found) listed refl refl refl refl (
+    λ b rows steps listed. dropped_with fold_request b rows steps (Damaged file at kept found) listed refl refl refl (
       shows.0.2,
-      not_whole b.opening (λ whole.
+      false_from_ne_true b.opening.whole (λ whole.
           let tell = listed.follows.whole whole in
           shows.0.2 (shows.0.3 ∙ sym (e.checked tell b.opening (b.before ++ steps) b.tried listed.follows)
           ∙ sym (shows.0.4 (hears tell)))),
@@ -263,7 +253,7 @@ module _ (disk sink : Bool) (slot : ℕ) (v u : Shown) (key : List ℕ) (l : Len
   )
   gives_pair views (Line Memory) out new hears shows = (
     shows.1,
-    λ b rows steps listed. dropped_with fold_request b rows steps Memory listed refl refl refl (omega arith) tt,
+    λ b rows steps listed. dropped_with fold_request b rows steps Memory listed refl refl (omega arith) tt,
   )
   gives_pair views (Line line) out new hears shows = absurd shows.0
   gives_pair views Sink out new hears shows =
@@ -316,21 +306,19 @@ still_of slot v u fold_memory why ours = still_files v u why.1 why.2
 refused_at : (disk : Bool) (request : Request) (slot : ℕ) (v u : Shown) (line : Reply) (faults : ℕ) (b : Begun) (rows : List Row)
     (steps : List Step) → Listed disk b slot v rows [] 0 steps → Rises v u faults 0 → Still v u
     → (IsTrue disk → Keeps disk (quiet_by 0) v u) → (IsTrue disk → IsUnmoved v.files.told u.files.told)
-    → may_drop request line 0 ≡ true → closes_after line ≡ true → is_row line ≡ false → QuietCalls (Some line) 1
+    → may_drop request line 0 ≡ true → closes_after line ≡ true → QuietCalls (Some line) 1
     → Cause (own_context b.opening) request line (events (point_of b.opening b.before)
     (steps ++ step_of disk (quiet_by 0) faults 0 u ∷ []))
     → BreaksAt disk request b slot u rows line
-refused_at disk request slot v u line faults b rows steps listed rises still keeps unmoved may closes no_row counts cause = record {
+refused_at disk request slot v u line faults b rows steps listed rises still keeps unmoved may closes counts cause = record {
   steps = steps ++ step_of disk (quiet_by 0) faults 0 u ∷ [];
   dropped = [];
   quiet = 1;
   listed = subst (λ (given : List Row). Listed disk b slot u given [] 1 (steps ++ step_of disk (quiet_by 0) faults 0 u ∷ []))
       (sym (append-nil rows))
       (listed_still disk b slot v u rows Quiet Done faults steps listed rises still (λ s. refl) keeps unmoved);
-  few = omega arith;
   may = may;
   closes = closes;
-  no_row = no_row;
   counts = counts;
   cause = cause;
 }
@@ -339,7 +327,7 @@ may_disk : (listing : Listing) → may_drop (request_of listing) Disk 0 ≡ true
 may_disk Keys = refl
 may_disk Pairs = refl
 
-may_memory : (listing : Listing) → may_drop (request_of listing) Memory 0 ≡ true
+pub may_memory : (listing : Listing) → may_drop (request_of listing) Memory 0 ≡ true
 may_memory Keys = refl
 may_memory Pairs = refl
 
@@ -354,14 +342,14 @@ gives_refusal disk sink listing slot v u out fold_disk why ours later views outs
   λ b rows steps listed.
       let r = rises_by_fault v u later why.3 views outs in
       refused_at disk (request_of listing) slot v u Disk r.n b rows steps listed r.rises
-      (still_of slot v u fold_disk why ours) keeps unmoved (may_disk listing) refl refl refl
+      (still_of slot v u fold_disk why ours) keeps unmoved (may_disk listing) refl refl
       (at_last b steps (step_of disk (quiet_by 0) r.n 0 u) (λ (x : Event). 1 ≤ x.step.faults) refl r.some),
 )
 gives_refusal disk sink listing slot v u out fold_memory why ours later views outs keeps unmoved = (
   refl,
   λ b rows steps listed.
       refused_at disk (request_of listing) slot v u Memory (u.files.faults - v.files.faults) b rows steps listed
-      (rises_by_faults v u later views outs) (still_of slot v u fold_memory why ours) keeps unmoved (may_memory listing) refl refl
+      (rises_by_faults v u later views outs) (still_of slot v u fold_memory why ours) keeps unmoved (may_memory listing) refl
       (omega arith) tt,
 )
 

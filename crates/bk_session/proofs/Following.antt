@@ -4,11 +4,11 @@ use Rattle.std.proofs.Common.{refl, sym, ap, subst, arith, eq-eqb, eqb-true, inl
 use Rattle.std.specs.Prelude.{IsTrue, not, ◌||◌, map, filter, slice_set}
 use Rattle.std.specs.List.{list_any}
 use Rattle.std.specs.Option.{is_some}
-use Rattle.std.proofs.lemmas.Bool.{cases_Bool, true≢false}
+use Rattle.std.proofs.lemmas.Bool.{cases_Bool}
 use Rattle.std.proofs.lemmas.Bool.Decides.{nat_tests}
 use Rattle.std.proofs.lemmas.List.Folds.{list_any-append}
-use Rattle.bk_base.specs.declared.calls.Answer.TheVariants.{Done, Fold, Pair}
-use Rattle.bk_base.specs.declared.calls.Call.TheVariants.{FoldClose, FoldNext, FoldOpen}
+use Rattle.bk_base.specs.declared.calls.Answer.TheVariants.{Done, Pair}
+use Rattle.bk_base.specs.declared.calls.Call.TheVariants.{FoldClose, FoldNext}
 use Rattle.bk_base.specs.declared.calls.Entry.{Entry}
 use Rattle.bk_base.specs.declared.histories.OpenFold.{OpenFold}
 use Rattle.bk_base.specs.declared.histories.Opening.{Opening}
@@ -20,7 +20,7 @@ use Rattle.bk_image.proofs.LegalLogs.{state_after-step}
 use Rattle.bk_image.proofs.Logs.{seq_after-append}
 use Rattle.bk_keydir.specs.declared.slots.Slot.{Slot}
 use Rattle.bk_keydir.specs.Keydir.{Entry as KeyEntry}
-use Rattle.bk_keydir.specs.Slots.{has_open, slot_at}
+use Rattle.bk_keydir.specs.Slots.{slot_at}
 use Rattle.bk_laws.specs.History.{State, after, is_open, is_slot, log_of, state_after, with_listed}
 use Rattle.bk_laws.specs.Log.{last_seq}
 use Rattle.bk_disk.specs.Counts.{Counted}

@@ -1,5 +1,5 @@
 -- What a read gives an inbox.
-use Rattle.std.proofs.Common.{◌≡◌, ◌∙◌, ℕ, ◌+◌, ◌<◌, ◌≤◌, List, ◌++◌, length, take, drop, Bool, refl, sym, ap}
+use Rattle.std.proofs.Common.{◌≡◌, ◌∙◌, ℕ, ◌+◌, ◌<◌, ◌≤◌, List, ◌++◌, length, take, drop, Bool, sym, ap}
 use Rattle.std.proofs.Common.{arith, IsTrue}
 use Rattle.std.proofs.Math.Seq.{drop-drop}
 use Rattle.std.proofs.lemmas.List.{length-take-le, take-append-drop}
@@ -8,7 +8,7 @@ use Rattle.bk_session.specs.Progress.{LosesPiece, TakesPiece}
 use Rattle.bk_wire.specs.Stream.{Stream, taken}
 
 -- what a read took of the source
-took_piece : (whole now_whole into : List ℕ) (before now n : ℕ) → Takes whole before now n into
+pub took_piece : (whole now_whole into : List ℕ) (before now n : ℕ) → Takes whole before now n into
     → now_whole ≡ whole → drop before whole ≡ take n into ++ drop now now_whole
 took_piece whole now_whole into before now n took same =
     sym (take-append-drop n (drop before whole))

@@ -1,21 +1,19 @@
 -- A request that one line serves: from what the store answered to what the session shows.
-use Rattle.std.proofs.Common.{◌≡◌, ◌∙◌, ℕ, ◌+◌, ◌<◌, ◌≤◌, Bool, true, false, List, [], ◌∷◌, ◌++◌, length, Option, Some, None}
+use Rattle.std.proofs.Common.{◌≡◌, ◌∙◌, ℕ, ◌+◌, ◌<◌, Bool, true, false, List, [], ◌∷◌, ◌++◌, Option, Some, None}
 use Rattle.std.proofs.Common.{refl, sym, ap, subst, arith, inl, inr}
 use Rattle.std.specs.Prelude.{IsTrue, ◌≢◌, is_some}
 use Rattle.std.specs.List.{flat_map}
 use Rattle.std.proofs.lemmas.List.{append-nil}
-use Rattle.bk_base.specs.declared.histories.Opening.{Opening}
 use Rattle.bk_base.specs.declared.histories.Step.{Step}
 use Rattle.bk_base.specs.declared.numbers.Moment.{Moment}
 use Rattle.bk_base.specs.declared.requests.Reply.{Reply}
 use Rattle.bk_base.specs.declared.requests.Reply.TheVariants.{Bye}
 use Rattle.bk_base.specs.declared.requests.Request.{Request}
 use Rattle.bk_base.specs.declared.requests.Request.TheVariants.{Quit as quit_request}
-use Rattle.bk_base.specs.declared.writes.Write.{Write}
 use Rattle.bk_disk.specs.Told.{Told, clock, untold}
 use Rattle.bk_exchange.specs.Answers.{Context}
 use Rattle.bk_exchange.specs.Exchanges.{Exchange, IsExchange, asked_in, asks_clock}
-use Rattle.bk_exchange.specs.OneThread.{IsOwn, QuietCalls, one_if_quiet}
+use Rattle.bk_exchange.specs.OneThread.{QuietCalls, one_if_quiet}
 use Rattle.bk_exchange.specs.Points.{Point, point_of}
 use Rattle.bk_exchange.specs.Refusals.{is_listing, is_quit}
 use Rattle.bk_exchange.specs.Sessions.{IsQuit, Ticks}
@@ -26,8 +24,8 @@ use Rattle.bk_session.specs.declared.serving.Onward.{Onward}
 use Rattle.bk_session.specs.declared.serving.Onward.TheVariants.{Next, Quit, Sink, Memory}
 use Rattle.bk_session.specs.Following.{Follows, own_context}
 use Rattle.bk_session.specs.Outgoing.{Outgoing}
-use Rattle.bk_session.specs.Replying.{Replied, RepliesOnce, exchange_of}
-use Rattle.bk_session.specs.Serving.{CrashesWithin, IsLater, IsServedAs, SessionState, SendsAs, Served, Serves, Tells}
+use Rattle.bk_session.specs.Replying.{RepliesOnce, exchange_of}
+use Rattle.bk_session.specs.Serving.{IsLater, IsServedAs, SessionState, SendsAs, Serves, Tells}
 
 -- ---- what holds of each exchange
 

@@ -1,35 +1,31 @@
 -- GET, SYNC and STAT: from what the store did to the line.
-use Rattle.std.proofs.Common.{◌≡◌, ◌∙◌, ◌⊎◌, ℕ, ◌+◌, ◌-◌, ◌≤◌, Bool, true, false, List, [], ◌∷◌, ◌++◌, length, get_or, drop}
+use Rattle.std.proofs.Common.{◌≡◌, ◌∙◌, ℕ, ◌-◌, ◌≤◌, Bool, true, false, List, [], ◌∷◌, length, get_or, drop}
 use Rattle.std.proofs.Common.{Option, Some, None, refl, sym, ap, subst, arith, inl, inr}
-use Rattle.std.specs.Prelude.{IsTrue, ◌≢◌, sum_by}
-use Rattle.std.proofs.lemmas.Bool.{cases_Bool}
+use Rattle.std.specs.Prelude.{IsTrue, sum_by}
+use Rattle.std.proofs.lemmas.Bool.{false_from_ne_true}
 use Rattle.bk_base.specs.declared.calls.Answer.{Answer}
 use Rattle.bk_base.specs.declared.calls.Answer.TheVariants.{Done, Found, Nothing, Numbered as numbered_answer}
 use Rattle.bk_base.specs.declared.calls.Call.TheVariants.{Get as get_call, Quiet, Sync as sync_call}
-use Rattle.bk_base.specs.declared.calls.Entry.{Entry}
 use Rattle.bk_base.specs.declared.histories.Opening.{Opening}
 use Rattle.bk_base.specs.declared.histories.Snapshot.{Snapshot}
 use Rattle.bk_base.specs.declared.histories.Step.{Step}
-use Rattle.bk_base.specs.declared.numbers.FileId.{FileId}
 use Rattle.bk_base.specs.declared.numbers.Moment.{Moment}
 use Rattle.bk_base.specs.declared.numbers.Seq.{Seq}
 use Rattle.bk_base.specs.declared.requests.Reply.{Reply}
 use Rattle.bk_base.specs.declared.requests.Reply.TheVariants.{Absent, Damaged, Disk, Memory, Read, Stat as stat_line}
 use Rattle.bk_base.specs.declared.requests.Reply.TheVariants.{Synced, Value}
-use Rattle.bk_base.specs.declared.requests.Request.{Request}
 use Rattle.bk_base.specs.declared.requests.Request.TheVariants.{Get, Stat, Sync}
 use Rattle.bk_base.specs.declared.rows.Row.{Row}
 use Rattle.bk_base.specs.declared.writes.Write.{Write}
 use Rattle.bk_disk.specs.Causes.{Rose, bumped}
-use Rattle.bk_disk.specs.Counts.{Counted}
-use Rattle.bk_disk.specs.Told.{Front, Table, Told, clock, untold}
+use Rattle.bk_disk.specs.Told.{Front, Table, Told, untold}
 use Rattle.bk_disk.proofs.Counts.{counted_at_least, counted_rise, counts_bumped}
 use Rattle.bk_exchange.specs.Answers.{IsCount, ShowsGet, ShowsSync, map_size}
-use Rattle.bk_exchange.specs.Exchanges.{Replies, moment_of}
+use Rattle.bk_exchange.specs.Exchanges.{Replies}
 use Rattle.bk_exchange.specs.OneThread.{QuietCalls}
-use Rattle.bk_exchange.specs.Points.{AtOne, Event, events, own, point_of}
-use Rattle.bk_exchange.specs.Refusals.{Cause, may_refuse, may_spoil}
-use Rattle.bk_exchange.specs.Writes.{told_by, write_asked}
+use Rattle.bk_exchange.specs.Points.{Event, events, point_of}
+use Rattle.bk_exchange.specs.Refusals.{Cause, may_spoil}
+use Rattle.bk_exchange.specs.Writes.{told_by}
 use Rattle.bk_exchange.proofs.Bodies.{calls_behind, one_answer, one_refusal}
 use Rattle.bk_exchange.proofs.Events.{state_of_point}
 use Rattle.bk_laws.specs.History.{State, log_of}
@@ -38,7 +34,7 @@ use Rattle.bk_store.specs.declared.errors.LocateError.{LocateError}
 use Rattle.bk_store.specs.declared.errors.LocateError.TheVariants.{Disk as locate_disk, Memory as locate_memory}
 use Rattle.bk_store.specs.declared.sweeps.Stat.{Stat as counted_stat}
 use Rattle.bk_store.specs.Events.{CrashMeets, GoesOn, Keeps, KeepsPast, Refuses, entry_by, quiet_by}
-use Rattle.bk_store.specs.Loans.{LendsWrite, Lent, Views, ViewsNothing, check_of, get_reply, view_of}
+use Rattle.bk_store.specs.Loans.{LendsWrite, Lent, Views, ViewsNothing}
 use Rattle.bk_store.specs.Shown.{Shown, known_bytes}
 use Rattle.bk_store.specs.Sweeps.{IsStat}
 use Rattle.bk_store.specs.Writes.{KeepsRest}
@@ -47,11 +43,13 @@ use Rattle.bk_keydir.specs.Keydir.{newest_of, versions_of}
 use Rattle.bk_files.specs.Catalog.{Known}
 use Rattle.bk_session.specs.Following.{Follows, own_context, snapshot_in}
 use Rattle.bk_session.specs.Refusing.{line_of_locate}
-use Rattle.bk_session.specs.Replying.{IsGiven, RepliesOnce, exchange_of}
+use Rattle.bk_session.specs.Replying.{IsGiven, RepliesOnce}
 use Rattle.bk_session.proofs.ActiveRows.{files_in, lives_in, snapshot_of_point, totals_in}
-use Rattle.bk_session.proofs.Events.{Leaves, Rises, Still, at_event, is_step_of, leaves_kept, no_views}
+use Rattle.bk_session.proofs.Events.{Leaves, Rises, Still, at_event, is_step_of, leaves_kept}
 use Rattle.bk_session.proofs.Events.{rises_by_fault, rises_by_faults, step_of, still_replies}
 use Rattle.bk_session.proofs.Sizes.{size_is}
+use Rattle.bk_store.proofs.Pasts.{past_same}
+use Rattle.bk_store.proofs.Lending.{lent_checked}
 
 -- ---- what a call does that makes at most one view
 
@@ -65,9 +63,6 @@ nothing_past t u n = record {
   same = λ k low. ap (λ (f : Table Front). get_or u.past k f) n.fronts
       ∙ ap (λ (p : List (Table Front)). get_or p k t.fronts) n.past;
 }
-
-pub same_past : (t u : Told) → u ≡ t → KeepsPast t u
-same_past t u is = rw is (record { later = omega arith; same = λ k low. refl })
 
 -- a view was made, which may fail or not
 pub record RisesByView (fallible : Bool) (v u : Shown) : Type 0 where
@@ -174,16 +169,6 @@ module _ (tells : Bool) (key : List ℕ) (now : Moment) (v u : Shown) (still : S
         cause = cause o h tried f;
       })))
 
-  not_whole : (o : Opening) → (o.whole ≡ true → ⊥) → o.whole ≡ false
-  not_whole o never = elim (cases_Bool o.whole) [
-    | inl p ↦ absurd (never p)
-    | inr p ↦ p
-  ]
-
-  lent_checked : (w : Option Write) (l : Lent) → LendsWrite w (Some l) → check_of l.left ≡ l.crc
-  lent_checked None l h = absurd h
-  lent_checked (Some w) l h = h.crc
-
   -- the value of a loan was shown, or why it couldn't be read
   pub get_given : (views_tell : Bool) (l : Lent) (reply : Reply) → IsGiven views_tell l reply
       → (IsTrue tells → IsTrue views_tell)
@@ -211,7 +196,7 @@ module _ (tells : Bool) (key : List ℕ) (now : Moment) (v u : Shown) (still : S
       spoiled l (Damaged file at kept found) r refl refl refl keeps
       (λ o h tried f. (
         given.2,
-        not_whole o (λ whole.
+        false_from_ne_true o.whole (λ whole.
             let tell = f.whole whole in
             given.2 (given.3 ∙ sym (lent_checked (winner (log_of o h) key) l (lends tell o h tried f))
             ∙ sym (given.4 (hears tell)))),
@@ -320,5 +305,5 @@ stat_replies tells s v u same stat keeps crash =
       });
     }))
     (λ o h tried f. leaves_kept tells Stat None line (quiet_by 0) n 0 v u o h tried f rises refl (λ tell. keeps tell 0))
-    (λ tell. same_past v.files.told u.files.told (ap (λ (x : Shown). x.files.told) same))
+    (λ tell. past_same v.files.told u.files.told (ap (λ (x : Shown). x.files.told) same))
     (λ o h tried f tell. crash tell o h tried (f.stands tell))

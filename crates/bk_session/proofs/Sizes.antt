@@ -17,7 +17,8 @@ use Rattle.bk_keydir.specs.Keydir.{Entry, newest_of, versions_of}
 use Rattle.bk_laws.specs.Log.{or_else, put_in, put_of, winner}
 use Rattle.bk_store.specs.Loans.{is_put}
 use Rattle.bk_store.specs.Sweeps.{has_put}
-use Rattle.bk_store.proofs.Keys.{key_is, key_refl, key_same, key_sym}
+use Rattle.bk_store.proofs.Keys.{key_is, key_refl, key_sym}
+use Rattle.bk_laws.proofs.LastWrites.{or_else-none}
 
 abbrev has_key : List ℕ → List Entry → Bool
 has_key key es = list_any (bytes_eq key) (keys_of es)
@@ -112,10 +113,6 @@ or_found : (a b : Option Write) (w : Write) → a ≡ Some w → or_else a b ≡
 or_found None b w is = absurd (cc is)
 or_found (Some v) b w is = refl
 
-or_none : (a : Option Write) → or_else a None ≡ a
-or_none None = refl
-or_none (Some w) = refl
-
 -- a write of a later put changes nothing
 hidden : (w : Write) (ws : List Write) (later : Write) (key : List ℕ) → winner ws w.key ≡ Some later
     → winner (w ∷ ws) key ≡ winner ws key
@@ -123,13 +120,13 @@ hidden w ws later key is =
     elim (cases_Bool (bytes_eq w.key key)) [
       | inl p ↦ or_found (winner ws key) (cond (bytes_eq w.key key) (Some w) None) later
           (ap (winner ws) (sym (key_is w.key key p)) ∙ is)
-      | inr p ↦ ap (λ (b : Bool). or_else (winner ws key) (cond b (Some w) None)) p ∙ or_none (winner ws key)
+      | inr p ↦ ap (λ (b : Bool). or_else (winner ws key) (cond b (Some w) None)) p ∙ or_else-none (winner ws key)
     ]
 
 other_winner : (w : Write) (ws : List Write) (key : List ℕ) → bytes_eq w.key key ≡ false
     → winner (w ∷ ws) key ≡ winner ws key
 other_winner w ws key p =
-    ap (λ (b : Bool). or_else (winner ws key) (cond b (Some w) None)) p ∙ or_none (winner ws key)
+    ap (λ (b : Bool). or_else (winner ws key) (cond b (Some w) None)) p ∙ or_else-none (winner ws key)
 
 own_winner : (w : Write) (ws : List Write) → winner ws w.key ≡ None → winner (w ∷ ws) w.key ≡ Some w
 own_winner w ws none =

@@ -1,8 +1,8 @@
 -- What one exchange more does to a session on one thread: to the log, to what was tried, and to what a crash
 -- leaves.
-use Rattle.std.proofs.Common.{◌≡◌, ◌∙◌, ◌⊎◌, ℕ, ◌+◌, ◌<◌, ◌≤◌, List, [], ◌∷◌, ◌++◌, length, take, refl, sym, ap}
-use Rattle.std.proofs.Common.{subst, arith, inl, inr, append_assoc, IsTrue, Some}
-use Rattle.std.specs.List.{AllByRecursion, flat_map}
+use Rattle.std.proofs.Common.{◌≡◌, ◌∙◌, ◌⊎◌, ℕ, ◌<◌, ◌≤◌, List, [], ◌∷◌, ◌++◌, length, take, refl, sym, ap}
+use Rattle.std.proofs.Common.{subst, arith, inl, inr, append_assoc, Some}
+use Rattle.std.specs.List.{AllByRecursion}
 use Rattle.std.proofs.lemmas.Bool.{cases_lt}
 use Rattle.std.proofs.lemmas.List.{append-nil, length-append, take-append-le}
 use Rattle.bk_base.specs.declared.histories.Opening.{Opening}
@@ -17,20 +17,19 @@ use Rattle.bk_disk.specs.Crashes.{fronts_at}
 use Rattle.bk_disk.specs.Told.{Front, Image, Table, Told, clock}
 use Rattle.bk_exchange.proofs.Events.{point_of-append, state_of_point}
 use Rattle.bk_exchange.proofs.OkLines.{session_tells}
-use Rattle.bk_exchange.proofs.OneCaller.{alone_all, log_at, log_on}
+use Rattle.bk_exchange.proofs.OneCaller.{alone_all, log_at}
 use Rattle.bk_exchange.proofs.Stretches.{steps-append}
 use Rattle.bk_exchange.proofs.Tries.{tried_kept, tried_new}
 use Rattle.bk_exchange.specs.Answers.{Context}
-use Rattle.bk_exchange.specs.Exchanges.{Exchange, IsCut, IsExchange, moment_of, steps_of}
+use Rattle.bk_exchange.specs.Exchanges.{Exchange, IsCut, moment_of, steps_of}
 use Rattle.bk_exchange.specs.OneThread.{IsOwn, MayBeTried}
 use Rattle.bk_exchange.specs.Points.{Event, Point, calls_of, events, own, point_of}
-use Rattle.bk_exchange.specs.Sessions.{IsQuit, IsTranscript}
-use Rattle.bk_exchange.specs.Writes.{told_by, told_writes, write_asked, writes_in}
+use Rattle.bk_exchange.specs.Sessions.{IsQuit}
+use Rattle.bk_exchange.specs.Writes.{told_by, write_asked, writes_in}
 use Rattle.bk_image.specs.Prefix.{MeetsEither, Prefix}
 use Rattle.bk_laws.specs.History.{State, log_of}
 use Rattle.bk_laws.specs.Log.{SameMap}
-use Rattle.bk_session.specs.Crashes.{CrashesAt, CrashesBetween, asked_first}
-use Rattle.bk_session.specs.Following.{own_context}
+use Rattle.bk_session.specs.Crashes.{CrashesBetween, asked_first}
 use Rattle.bk_session.specs.Serving.{CrashesWithin, IsLater, IsSince, Tries}
 use Rattle.bk_store.specs.Events.{KeepsPast}
 use Rattle.bk_store.specs.History.{kept_of}

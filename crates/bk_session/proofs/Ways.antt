@@ -5,7 +5,6 @@ use Rattle.std.specs.List.{AllByRecursion, flat_map}
 use Rattle.std.proofs.lemmas.List.{append-nil, length-append}
 use Rattle.bk_base.specs.declared.histories.Opening.{Opening}
 use Rattle.bk_base.specs.declared.histories.Step.{Step}
-use Rattle.bk_base.specs.declared.numbers.Moment.{Moment}
 use Rattle.bk_base.specs.declared.requests.Request.{Request}
 use Rattle.bk_base.specs.declared.requests.Request.TheVariants.{Sync as sync_request}
 use Rattle.bk_base.specs.declared.statuses.SessionEnd.{SessionEnd}
@@ -17,27 +16,26 @@ use Rattle.bk_disk.specs.Streams.{LeftOver, Wrote}
 use Rattle.bk_exchange.proofs.OneCaller.{log_on, own_more}
 use Rattle.bk_exchange.proofs.Stretches.{EndsSo, ends_between, ends_within, goes_on, nothing_yet, one_exchange}
 use Rattle.bk_exchange.specs.Answers.{Context}
-use Rattle.bk_exchange.specs.Exchanges.{Exchange, IsCut, IsExchange, steps_of}
+use Rattle.bk_exchange.specs.Exchanges.{Exchange, IsCut, IsExchange}
 use Rattle.bk_exchange.specs.OneThread.{IsOwn, MayBeTried, OneThread}
 use Rattle.bk_exchange.specs.Points.{Point, point_of}
 use Rattle.bk_exchange.specs.Refusals.{is_quit}
-use Rattle.bk_exchange.specs.Sessions.{EndsReading, IsAt, IsLast, IsQuit, IsStart, IsSyntax, Reads, Session, SoFar}
-use Rattle.bk_exchange.specs.Sessions.{SyntaxIsDue, Telling, Ticks, Traffic, Transcript, Writes, exchanges, syntax_text}
+use Rattle.bk_exchange.specs.Sessions.{EndsReading, IsAt, IsLast, IsQuit, IsStart, IsSyntax, Reads}
+use Rattle.bk_exchange.specs.Sessions.{Telling, Traffic, Transcript, Writes, exchanges, syntax_text}
 use Rattle.bk_laws.specs.History.{log_of}
-use Rattle.bk_laws.specs.Wire.{Fits, IsBad, IsPartial, NoneStands, StandsIn, reply_text, request_text}
+use Rattle.bk_laws.specs.Wire.{IsBad, IsPartial, NoneStands, StandsIn, reply_text, request_text}
 use Rattle.bk_session.proofs.Steps.{crashes_on, log_last, tries_on}
 use Rattle.bk_session.specs.Crashes.{CrashesBetween}
 use Rattle.bk_session.specs.declared.serving.Onward.{Onward}
 use Rattle.bk_session.specs.declared.serving.Onward.TheVariants.{Next, Quit, Sink, Memory}
 use Rattle.bk_session.specs.Ending.{WritesLast, WritesAfter, WritesSyntax}
 use Rattle.bk_session.specs.Following.{Follows, own_context}
-use Rattle.bk_session.specs.Sessions.{IsHeld, Sides, sides_of, telling, traffic}
+use Rattle.bk_session.specs.Sessions.{IsHeld, Sides, sides_of, traffic}
 use Rattle.bk_session.specs.Outgoing.{Outgoing, Loses, Sends, Stops}
 use Rattle.bk_session.specs.Progress.{ComesOn, ComesToEnd, Goes, HasCome, HasServed, LosesPiece, TakesPiece, work_left}
-use Rattle.bk_session.specs.Serving.{SessionState, Served, Serves, Tells, session_state, tells_of}
+use Rattle.bk_session.specs.Serving.{SessionState, Served, Serves, tells_of}
 use Rattle.bk_store.specs.Events.{KeepsPast}
-use Rattle.bk_store.specs.Shown.{Shown}
-use Rattle.bk_wire.proofs.RequestLaws.{none_in_bad, none_in_partial, some_text}
+use Rattle.bk_wire.proofs.RequestLaws.{none_in_partial, some_text}
 use Rattle.bk_wire.specs.Stream.{Stream, taken}
 
 -- the two sides of a session in this state, with what its source has still to give
@@ -293,7 +291,7 @@ loses_so start made text final old mid is l closed =
 -- ---- behind a request
 
 -- the input, where one more request was taken off its front
-reads_on : (input read rest text more left : List ℕ) → input ≡ (read ++ rest) ++ left
+pub reads_on : (input read rest text more left : List ℕ) → input ≡ (read ++ rest) ++ left
     → rest ≡ text ++ more → input ≡ ((read ++ text) ++ more) ++ left
 reads_on input read rest text more left took stands =
     took ∙ ap (λ (r : List ℕ). (read ++ r) ++ left) stands

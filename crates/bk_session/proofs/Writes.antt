@@ -1,14 +1,13 @@
 -- PUT and DEL: from what the store did to the line.
-use Rattle.std.proofs.Common.{◌≡◌, ◌∙◌, ◌⊎◌, ℕ, ◌+◌, ◌-◌, ◌≤◌, Bool, true, false, List, [], ◌∷◌, ◌++◌, length, Option, Some, None}
-use Rattle.std.proofs.Common.{refl, sym, ap, subst, arith, inl, inr}
+use Rattle.std.proofs.Common.{◌≡◌, ◌∙◌, ℕ, ◌+◌, ◌-◌, ◌≤◌, Bool, true, false, List, [], ◌∷◌, Some, None}
+use Rattle.std.proofs.Common.{refl, ap, subst, arith, inl, inr}
 use Rattle.std.specs.Prelude.{IsTrue}
 use Rattle.bk_base.specs.declared.calls.Answer.TheVariants.{Done, Nothing, Numbered as numbered_answer}
 use Rattle.bk_base.specs.declared.calls.Call.TheVariants.{Delete as delete_call, Put as put_call, Quiet}
 use Rattle.bk_base.specs.declared.histories.Opening.{Opening}
 use Rattle.bk_base.specs.declared.histories.Step.{Step}
 use Rattle.bk_base.specs.declared.numbers.Moment.{Moment}
-use Rattle.bk_base.specs.declared.numbers.Seq.{Seq}
-use Rattle.bk_base.specs.declared.requests.Reply.TheVariants.{Absent, Numbered, Disk}
+use Rattle.bk_base.specs.declared.requests.Reply.TheVariants.{Absent, Numbered}
 use Rattle.bk_base.specs.declared.requests.Request.{Request}
 use Rattle.bk_base.specs.declared.requests.Request.TheVariants.{Put, Delete}
 use Rattle.bk_base.specs.declared.writes.Body.{Body}
@@ -41,7 +40,7 @@ use Rattle.bk_session.specs.Following.{Follows, own_context}
 use Rattle.bk_session.specs.Refusing.{line_of_put}
 use Rattle.bk_session.specs.Replying.{RepliesOnce, exchange_of}
 use Rattle.bk_session.specs.Serving.{Tries}
-use Rattle.bk_session.proofs.Events.{Leaves, Rises, Still, at_event, files_are_full, is_step_of, leaves_kept}
+use Rattle.bk_session.proofs.Events.{Leaves, Rises, at_event, files_are_full, is_step_of, leaves_kept}
 use Rattle.bk_session.proofs.Events.{rises_by_fault, rises_by_faults, seq_is_full, step_of, still_replies, wrote_replies}
 use Rattle.bk_session.proofs.Following.{KeepsSettings}
 
@@ -146,7 +145,7 @@ put_told key value now FullFiles = refl
 put_told key value now put_disk = refl
 put_told key value now put_memory = refl
 
-write_at : ℕ → Moment → List ℕ → Body → Write
+pub write_at : ℕ → Moment → List ℕ → Body → Write
 write_at n now key body = record { seq = record { 0 = n }; moment = now; key = key; body = body }
 
 put_next : (v : Shown) (key value : List ℕ) (now : Moment) (log : List Write) → v.seq ≡ last_seq log

@@ -1,5 +1,5 @@
 -- A listing, from the opening of its fold to its end.
-use Rattle.std.specs.Prelude.{◌≡◌, ◌≢◌, ◌≤◌, ℕ, ◌+◌, Bool, true, false, IsTrue, List, [], ◌∷◌, ◌++◌, drop, length, Some}
+use Rattle.std.specs.Prelude.{◌≡◌, ◌≢◌, ℕ, Bool, true, IsTrue, List, [], ◌∷◌, ◌++◌, drop, length, Some}
 use Rattle.std.specs.List.{AllByRecursion, flat_map}
 use Rattle.bk_base.specs.declared.histories.Opening.{Opening}
 use Rattle.bk_base.specs.declared.histories.Step.{Step}
@@ -12,7 +12,7 @@ use Rattle.bk_base.specs.declared.requests.Request.TheVariants.{Fold as fold_req
 use Rattle.bk_base.specs.declared.writes.Write.{Write}
 use Rattle.bk_disk.specs.Told.{Told, clock}
 use Rattle.bk_exchange.specs.Answers.{own_calls}
-use Rattle.bk_exchange.specs.Exchanges.{Exchange, is_row}
+use Rattle.bk_exchange.specs.Exchanges.{Exchange}
 use Rattle.bk_exchange.specs.Listings.{Row, closing_call, end_call, listing_calls, row_line, row_lines}
 use Rattle.bk_exchange.specs.OneThread.{IsAlone, IsOwn, QuietCalls, quiet_in}
 use Rattle.bk_exchange.specs.Points.{Said, events, point_of}
@@ -99,15 +99,13 @@ pub record BreaksAt (disk : Bool) (request : Request) (b : Begun) (slot : ℕ) (
   pub dropped : List Row
   pub quiet : ℕ
   pub listed : Listed disk b slot v (rows ++ dropped) [] quiet steps
-  pub few : length dropped ≤ 1
   pub may : may_drop request line (length dropped) ≡ true
   pub closes : closes_after line ≡ true
-  pub no_row : is_row line ≡ false
   pub counts : QuietCalls (Some line) quiet
   pub cause : Cause (own_context b.opening) request line (events (point_of b.opening b.before) steps)
 
 -- one pair more, whose row's text goes on so
-pub record GoesOn (disk : Bool) (request : Request) (b : Begun) (slot : ℕ) (v : Shown) (rows : List Row)
+pub record RowsGoOn (disk : Bool) (request : Request) (b : Begun) (slot : ℕ) (v : Shown) (rows : List Row)
     (Out : List ℕ → Type 0) : Type 0 where
   pub steps : List Step
   pub row : Row
@@ -118,7 +116,7 @@ pub record GoesOn (disk : Bool) (request : Request) (b : Begun) (slot : ℕ) (v 
 abbrev pub Gives : Given → Bool → Bool → Request → ℕ → Shown → Outgoing → Shown → Outgoing → Type 0
 Gives given_row disk sink request slot v out u new =
     (b : Begun) (rows : List Row) (steps : List Step) → Listed disk b slot v rows [] 0 steps
-    → GoesOn disk request b slot u rows (λ text. IsTrue sink → Sends out text new)
+    → RowsGoOn disk request b slot u rows (λ text. IsTrue sink → Sends out text new)
 Gives given_end disk sink request slot v out u new =
     (new ≡ out) × ((b : Begun) (rows : List Row) (steps : List Step) → Listed disk b slot v rows [] 0 steps
     → (later : List Step) × Listed disk b slot u rows (end_call slot ∷ []) 0 later)
@@ -127,7 +125,7 @@ Gives (Line line) disk sink request slot v out u new =
     → BreaksAt disk request b slot u rows line)
 Gives Sink disk sink request slot v out u new =
     (b : Begun) (rows : List Row) (steps : List Step) → Listed disk b slot v rows [] 0 steps
-    → GoesOn disk request b slot u rows (λ text. IsTrue sink → Stops out text new)
+    → RowsGoOn disk request b slot u rows (λ text. IsTrue sink → Stops out text new)
 
 -- the fold is closed, by one step more
 abbrev pub Closes : Bool → ℕ → Shown → Shown → Type 0

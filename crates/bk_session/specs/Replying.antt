@@ -1,5 +1,5 @@
 -- What one event of the store answers to a request: its line, and what the store follows then.
-use Rattle.std.specs.Prelude.{◌≡◌, ◌≢◌, ℕ, Bool, true, IsTrue, List, [], ◌∷◌, ◌++◌, drop, Option, Some}
+use Rattle.std.specs.Prelude.{◌≡◌, ◌≢◌, Bool, true, IsTrue, List, [], ◌∷◌, ◌++◌, drop, Option, Some}
 use Rattle.bk_base.specs.declared.histories.Opening.{Opening}
 use Rattle.bk_base.specs.declared.histories.Step.{Step}
 use Rattle.bk_base.specs.declared.numbers.Moment.{Moment}

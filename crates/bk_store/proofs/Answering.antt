@@ -1,6 +1,6 @@
 -- From what a write did to the store to what the event answers.
-use Rattle.std.proofs.Common.{◌≡◌, ℕ, Bool, true, false, List, [], ◌∷◌, Option, Some, None, refl, ap, ◌∙◌}
-use Rattle.std.specs.Prelude.{not, IfErr, IfOk, OnErr, OnOk, Result, Ok, Err}
+use Rattle.std.proofs.Common.{◌≡◌, ℕ, Bool, true, false, List, Option, Some, None, refl, ap, ◌∙◌}
+use Rattle.std.specs.Prelude.{not, IfErr, IfOk, OnOk, Result, Ok, Err}
 use Rattle.bk_base.specs.declared.calls.Answer.TheVariants.{Nothing, Numbered}
 use Rattle.bk_base.specs.declared.calls.Call.TheVariants.{Delete, Put as put_call, Reap}
 use Rattle.bk_base.specs.declared.numbers.Moment.{Moment}

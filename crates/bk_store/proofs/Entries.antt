@@ -14,6 +14,7 @@ use Rattle.bk_keydir.specs.Keydir.{Entry, dropped_at, edited_at, is_lone_gone, i
 use Rattle.bk_store.specs.Sweeps.{versions_in}
 use Rattle.bk_store.proofs.Keys.{key_is, key_same, key_sym}
 use Rattle.bk_store.proofs.Listings.{versions_there}
+use Rattle.bk_keydir.proofs.CountLemmas.{newest_left}
 
 -- ---- by position
 
@@ -156,10 +157,6 @@ shorter_pruned n slots es v low is =
     let one : length (left_by_prune slots (versions_at n es)) + 1 ≡ length (versions_at n es) =
     ap (λ (o : Option Version). length (left_by_prune slots (versions_at n es)) + one_of o) (sym is) ∙ length_left slots (versions_at n es) in
     omega (arith, one, ap length (edited_there n (left_by_prune slots) es low))
-
-newest_left : (slots : List (Option Slot)) (vs : List Version) → newest_of (left_by_prune slots vs) ≡ newest_of vs
-newest_left slots [] = refl
-newest_left slots (v ∷ vs) = refl
 
 pub newest_pruned : (n : ℕ) (slots : List (Option Slot)) (es : List Entry) (key : List ℕ)
     → newest_of (versions_of key (edited_at n (left_by_prune slots) es)) ≡ newest_of (versions_of key es)

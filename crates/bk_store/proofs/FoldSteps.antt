@@ -3,7 +3,7 @@ use Rattle.std.proofs.Common.{◌≡◌, ℕ, zero, suc, ◌+◌, ◌<◌, ◌�
 use Rattle.std.specs.Prelude.{IsTrue, ◌==◌, cond, nat_le, not, map, filter, slice_set}
 use Rattle.std.specs.List.{IsDistinct}
 use Rattle.std.specs.Map.{keys_of}
-use Rattle.std.specs.Option.{is_some, option_eq}
+use Rattle.std.specs.Option.{option_eq}
 use Rattle.std.specs.Str.{bytes_eq}
 use Rattle.std.proofs.lemmas.Bool.{true≢false}
 use Rattle.bk_base.specs.declared.calls.Answer.TheVariants.{Done, End, Fold as fold_answer, Pair}
@@ -50,6 +50,7 @@ use Rattle.bk_store.proofs.Keys.{newest_in}
 use Rattle.bk_store.proofs.Lending.{Finds, get_finds, get_finds_none}
 use Rattle.bk_store.proofs.Listings.{all_among, key_within, listed_is_live, not_among, versions_there}
 use Rattle.bk_store.proofs.Stepping.{content_next, one_step}
+use Rattle.bk_image.proofs.OneName.{some_of}
 
 -- ---- contents
 
@@ -83,10 +84,6 @@ log_rises files c h =
     subst IsLog (sym h.holds.split) (rises-front 0 (h.holds.settled ++ h.holds.recent) c.tried whole)
 
 -- ---- slots
-
-some_of : {X : Type 0} (o : Option X) → is_some o ≡ true → (x : X) × (o ≡ Some x)
-some_of None h = absurd (true≢false (sym h))
-some_of (Some x) h = (x, refl)
 
 pub who_is : (o : Option Slot) (who : ℕ) → who_of o ≡ Some who → (s : Slot) × (o ≡ Some s) × (s.who ≡ who)
 who_is None who is = absurd (cc is)

@@ -27,6 +27,12 @@ use Rattle.bk_store.specs.Versions.{KeyStands, VersionStands}
 use Rattle.bk_store.proofs.Events.{live_says}
 use Rattle.bk_store.proofs.Keys.{key_is}
 use Rattle.bk_store.proofs.KeptVersions.{version_stays}
+use Rattle.bk_image.proofs.OneName.{none_of}
+
+-- the bytes of a loan of a write have the checksum that they were written with
+pub lent_checked : (w : Option Write) (l : Lent) → LendsWrite w (Some l) → check_of l.left ≡ l.crc
+lent_checked None l h = absurd h
+lent_checked (Some w) l h = h.crc
 
 -- ---- the record
 
@@ -122,11 +128,7 @@ get_finds files log key ttl now v l stands is lends left = go (winner log key) r
         record_is = subst (λ (x : Option Write). LendsWrite x (Some l)) (sym e) lent;
       }
 
-is_none_of : {X : Type 0} (o : Option X) → is_some o ≡ false → o ≡ None
-is_none_of None h = refl
-is_none_of (Some x) h = absurd (true≢false h)
-
 pub get_finds_none : (files : Seen) (log : List Write) (key : List ℕ) (ttl now : ℕ) (v : Option Version)
     → KeyStands (known_bytes files) v (winner log key) → is_live ttl now v ≡ false → live log key now ttl ≡ None
 get_finds_none files log key ttl now v stands is =
-    is_none_of (live log key now ttl) (live_says (known_bytes files) ttl now v (winner log key) stands ∙ is)
+    none_of (live log key now ttl) (live_says (known_bytes files) ttl now v (winner log key) stands ∙ is)

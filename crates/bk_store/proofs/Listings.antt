@@ -17,6 +17,7 @@ use Rattle.bk_keydir.specs.Slots.{at_epoch}
 use Rattle.bk_store.specs.Folds.{keys_in}
 use Rattle.bk_store.specs.Loans.{is_live}
 use Rattle.bk_store.proofs.Keys.{key_is, key_refl, key_same, key_sym}
+use Rattle.std.proofs.Math.Bool.{or-true}
 
 -- ---- keys that stand once
 
@@ -86,10 +87,6 @@ listed_pair : (ttl : ℕ) (s : Slot) (key : List ℕ) (o : Option Version) → i
 listed_pair ttl s key None is = absurd (true≢false (sym is))
 listed_pair ttl s key (Some v) is = rw (is, key_refl key) refl
 
-or_true : (b : Bool) → (b || true) ≡ true
-or_true true = refl
-or_true false = refl
-
 -- a key of which a live put is seen is in the listing
 pub in_listing : (ttl : ℕ) (s : Slot) (es : List Entry) (key : List ℕ)
     → is_listed ttl s (at_epoch s.epoch.0 (versions_of key es)) ≡ true → is_among key (keys_in (listing ttl s es)) ≡ true
@@ -109,7 +106,7 @@ in_listing ttl s (e ∷ es) key is =
           (sym same) (listed_pair ttl s e.0 (at_epoch s.epoch.0 e.1) is) in
           rw here refl
       go false p is others =
-          rw (others is) (or_true (is_among key (keys_in (pair_if (is_listed ttl s (at_epoch s.epoch.0 e.1)) e.0 (at_epoch s.epoch.0 e.1)))))
+          rw (others is) (or-true (is_among key (keys_in (pair_if (is_listed ttl s (at_epoch s.epoch.0 e.1)) e.0 (at_epoch s.epoch.0 e.1)))))
 
 -- where nothing is left, each such key was listed
 pub all_among : (ttl : ℕ) (s : Slot) (cursor : ℕ) (es : List Entry) (key : List ℕ) → listing ttl s (drop cursor es) ≡ []

@@ -3,27 +3,26 @@ use Rattle.std.proofs.Common.{◌≡◌, ℕ, zero, suc, ◌+◌, Bool, false, L
 use Rattle.std.specs.Prelude.{IsTrue}
 use Rattle.std.specs.Option.{IsSome, option_map, unwrap_or}
 use Rattle.std.proofs.lemmas.Bool.{true≢false}
-use Rattle.bk_base.specs.declared.names.Name.{Name}
 use Rattle.bk_base.specs.declared.rows.Row.{Row}
 use Rattle.bk_base.specs.declared.writes.Version.{Version}
 use Rattle.bk_base.specs.declared.writes.Write.{Write}
 use Rattle.bk_disk.specs.Crashes.{IsSynced, front_of}
-use Rattle.bk_disk.specs.Told.{Image, Told, at}
-use Rattle.bk_disk.proofs.Leaves.{whole_fronts}
+use Rattle.bk_disk.specs.Told.{Told, at}
 use Rattle.bk_disk.proofs.Counts.{counted_exactly}
 use Rattle.bk_files.specs.Catalog.{Known, main}
 use Rattle.bk_files.specs.Files.{IsConsistent}
 use Rattle.bk_files.specs.Rows.{AreAtRest, AreSyncedIfSealed}
 use Rattle.bk_image.specs.Known.{known_of}
 use Rattle.bk_image.specs.Readings.{In}
-use Rattle.bk_image.proofs.HoldsOpening.{holds_opens}
+use Rattle.bk_image.proofs.HoldsOpening.{at-whole, holds_opens}
 use Rattle.bk_keydir.specs.declared.loads.Loaded.{Loaded}
 use Rattle.bk_keydir.specs.declared.slots.Slot.{Slot}
 use Rattle.bk_keydir.specs.Keydir.{Entry, Shown as KeydirShown}
-use Rattle.bk_keydir.specs.Slots.{IsOpen, has_open, slot_at}
+use Rattle.bk_keydir.specs.Slots.{has_open, slot_at}
 use Rattle.bk_store.specs.Shown.{IsFit, IsSteady, Shown, active_file, known_bytes}
 use Rattle.bk_store.specs.Standing.{StandsFor}
 use Rattle.bk_store.specs.Starting.{AreFilesOf, HasOnePut, IsInOrder, IsLoadOf, opening_of}
+use Rattle.bk_keydir.proofs.FoldLemmas.{none_open}
 
 -- no fold is open in any slot
 pub no_slot : (slots : List (Option Slot)) (n : ℕ) → has_open slots ≡ false → slot_at slots n ≡ None
@@ -32,19 +31,11 @@ no_slot (None ∷ slots) zero none = refl
 no_slot (None ∷ slots) (suc n) none = no_slot slots n none
 no_slot (Some s ∷ slots) n none = absurd (true≢false none)
 
-pub none_is_open : (slots : List (Option Slot)) (s : Slot) → has_open slots ≡ false → IsOpen slots s → ⊥
-none_is_open slots s none (n, is) = let wrong : None ≡ Some s = sym (no_slot slots n none) ∙ is in absurd (cc wrong)
-
--- the fronts of a disk that is synced
-at-synced : (image : Image) (n : Name) → at (whole_fronts image) n ≡ option_map front_of (at image n)
-at-synced [] n = refl
-at-synced (e ∷ es) n = grind (arith, at-synced es n)
-
 -- of a disk that is synced each row's file is
 rows_synced : (t : Told) (low high : ℕ) (rows : List Row) → IsSynced t → AreAtRest low high rows t → AreSyncedIfSealed rows t
 rows_synced t low high [] synced rest = tt
 rows_synced t low high (r ∷ rs) synced rest = (
-  λ sealed. ap (λ fronts. at fronts (main r.id.0)) synced ∙ at-synced t.image (main r.id.0) ∙ whole (at t.image (main r.id.0)) rest.2.ours.0,
+  λ sealed. ap (λ fronts. at fronts (main r.id.0)) synced ∙ at-whole t.image (main r.id.0) ∙ whole (at t.image (main r.id.0)) rest.2.ours.0,
   rows_synced t (r.id.0 + 1) high rs synced rest.3,
 ) where
   whole : (o : Option (List ℕ)) → IsSome o → option_map front_of o ≡ Some (front_of (unwrap_or o []))
@@ -67,7 +58,7 @@ steady_start tells v l order keys seq consistent =
       consistent = consistent;
       last = order.seq;
       slots = order.slots;
-      epochs = λ s is_open. absurd (none_is_open l.keydir.slots s order.no_fold is_open);
+      epochs = λ s is_open. absurd (none_open l.keydir.slots s order.no_fold is_open);
       versions = λ e v is_in there. only_fits l.last_seq.0 l.rows.items e v (order.keys e is_in) there;
     }))
 

@@ -3,7 +3,7 @@ use Rattle.std.proofs.Common.{◌≡◌, ℕ, zero, suc, ◌+◌, ◌-◌, ◌<�
 use Rattle.std.specs.Prelude.{IsTrue, not, ◌&&◌, sum_by, take}
 use Rattle.std.specs.List.{IsDistinct}
 use Rattle.std.specs.Map.{keys_of}
-use Rattle.std.specs.Option.{is_some, option_map}
+use Rattle.std.specs.Option.{option_map}
 use Rattle.std.specs.Str.{bytes_eq}
 use Rattle.std.proofs.lemmas.Bool.{cases_Bool, true≢false}
 use Rattle.std.proofs.lemmas.Bool.Decides.{nat_tests}
@@ -12,7 +12,7 @@ use Rattle.bk_base.specs.declared.rows.Row.{Row}
 use Rattle.bk_base.specs.declared.writes.Version.{Version}
 use Rattle.bk_base.specs.declared.writes.Write.{Write}
 use Rattle.bk_files.specs.Catalog.{counted, edited, row_of, with_counts}
-use Rattle.bk_files.specs.Files.{IsConsistent, IsFromScratch, IsSyncedIfSealed, Seen, rows_of}
+use Rattle.bk_files.specs.Files.{Seen, rows_of}
 use Rattle.bk_image.specs.Readings.{In, Reading}
 use Rattle.bk_keydir.specs.declared.slots.Slot.{Slot}
 use Rattle.bk_keydir.specs.Counts.{PruneCounts, SameCounts, is_put_in, one_in}
@@ -34,6 +34,7 @@ use Rattle.bk_store.proofs.Events.{put_says}
 use Rattle.bk_store.proofs.FoldsKept.{folds_stay}
 use Rattle.bk_store.proofs.KeptVersions.{extends_refl}
 use Rattle.bk_store.proofs.RowCounts.{row_of-edited}
+use Rattle.bk_image.proofs.OneName.{none_of}
 
 -- ---- the files
 
@@ -53,27 +54,6 @@ counts_trans tells a b c first second = record {
   consistent = λ tell h. second.consistent tell (first.consistent tell h);
   totals = λ tell h. second.totals tell (first.totals tell h);
   synced = λ tell h. second.synced tell (first.synced tell h);
-}
-
-some_map : {X : Type 0} (b : Bool) (f : X → X) (o : Option X) → is_some (cond b (option_map f o) o) ≡ is_some o
-some_map true f None = refl
-some_map true f (Some x) = refl
-some_map false f o = refl
-
--- the counts of one file's row are set
-pub counts_set : (tells : Bool) (old new : Seen) (id live refs : ℕ)
-    → new ≡ record old { catalog = counted id live refs old.catalog }
-    → (IsTrue tells → IsConsistent old → IsConsistent new) → (IsTrue tells → IsFromScratch old → IsFromScratch new)
-    → (IsTrue tells → IsSyncedIfSealed old → IsSyncedIfSealed new) → CountsAlone tells old new
-counts_set tells old new id live refs is consistent totals synced = record {
-  same = subst (λ (s : Seen). s ≡ record old { catalog = record old.catalog { rows = s.catalog.rows } }) (sym is) refl;
-  there = λ n.
-      ap (λ (s : Seen). is_some (row_of n s.catalog.rows)) is
-      ∙ ap (λ (o : Option Row). is_some o) (row_of-edited id n (with_counts live refs) old.catalog.rows (λ r. refl))
-      ∙ some_map (n == id) (with_counts live refs) (row_of n old.catalog.rows);
-  consistent = consistent;
-  totals = totals;
-  synced = synced;
 }
 
 -- ---- a reference is taken
@@ -274,10 +254,6 @@ no_fold_sees keys now slots none = record {
   slots = slots;
   same = λ s is_open. absurd (not_open keys.slots is_open.0 s none is_open.1);
 }
-
-none_of : {X : Type 0} (o : Option X) → is_some o ≡ false → o ≡ None
-none_of None h = refl
-none_of (Some x) h = absurd (true≢false h)
 
 -- the newest version is a tombstone: that no key is there says the same
 gone_says : (r : Reading) (vs : List Version) (w : Option Write) → is_lone_gone vs ≡ true → KeyStands r (newest_of vs) w → put_of w ≡ None

@@ -1,5 +1,5 @@
 -- The exchange that draws a ticket keeps the rule.
-use Rattle.std.proofs.Common.{◌≡◌, eqb, ◌≢◌, ℕ, ◌+◌, ◌<◌, ◌≤◌, Bool, true, false, List, [], ◌∷◌, set, slice_index, get_or, Option, refl, ap, sym, ◌∙◌, subst, arith}
+use Rattle.std.proofs.Common.{◌≡◌, eqb, ◌≢◌, ℕ, ◌+◌, ◌<◌, ◌≤◌, true, List, [], ◌∷◌, set, slice_index, get_or, Option, refl, ap, sym, ◌∙◌, subst, arith}
 use Rattle.std.proofs.lemmas.Bool.{false_from_ne_true}
 use mathlib.Core.Option.{some, none}
 use mathlib.Core.Logic.{dite}

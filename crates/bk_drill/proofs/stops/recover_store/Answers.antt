@@ -1,4 +1,4 @@
-use Rattle.std.proofs.Common.{◌≡◌, ◌∙◌, ap, refl}
+use Rattle.std.proofs.Common.{◌∙◌, ap, refl}
 use Rattle.bk_files.specs.Catalog.{Known}
 use Rattle.bk_memdisk.specs.Disk.{told_by}
 use Rattle.bk_memdisk.specs.Plans.{counted_to}

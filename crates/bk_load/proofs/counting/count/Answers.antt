@@ -1,4 +1,4 @@
-use Rattle.std.proofs.Common.{◌≡◌, ℕ, ◌+◌, get_or, min, sym, ap, ◌∙◌}
+use Rattle.std.proofs.Common.{ℕ, ◌+◌, get_or, min, sym, ap, ◌∙◌}
 use Rattle.bk_load.specs.Counting.{top}
 use Rattle.bk_load.proofs.Counted.{a_row, no_row_counted, put_counted}
 use Rattle.bk_load.proofs.counting.count.Goals as goal

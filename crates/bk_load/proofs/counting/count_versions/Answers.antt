@@ -1,4 +1,4 @@
-use Rattle.std.proofs.Common.{◌≡◌, ℕ, ◌<◌, length, Some, None, sym, subst, ◌∙◌}
+use Rattle.std.proofs.Common.{ℕ, ◌<◌, length, Some, None, sym, subst, ◌∙◌}
 use Rattle.bk_load.proofs.Counted.{step_counted}
 use Rattle.bk_load.proofs.counting.count_versions.Goals.{in-Some, in_default}
 use Rattle.bk_load.proofs.counting.count_versions.Goals as goal

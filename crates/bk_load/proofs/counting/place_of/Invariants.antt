@@ -1,4 +1,4 @@
-use Rattle.std.proofs.Common.{◌-◌, ◌≡◌, ℕ, ◌+◌, ◌<◌, ◌≤◌, length, get_or}
+use Rattle.std.proofs.Common.{◌-◌, ℕ, ◌<◌, ◌≤◌, length, get_or}
 use Rattle.bk_load.proofs.Counted.{a_row}
 use Rattle.bk_load.proofs.counting.place_of.Given as goal
 

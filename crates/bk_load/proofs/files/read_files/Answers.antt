@@ -9,7 +9,8 @@ use Rattle.bk_load.specs.Found.{HaveRead, IsFound, IsUncounted, KeepsFound}
 use Rattle.bk_load.specs.Steps.{IsSyncedFile}
 use Rattle.bk_load.specs.declared.files.FileFound.{FileFound}
 use Rattle.bk_load.proofs.Courses.{came_trans, course_after, course_memory}
-use Rattle.bk_load.proofs.FoundFiles.{all_behind, found_all, found_ids, found_rise, have_read_one, ids_more, no_list_at, scanned_in, synced_more, synced_rows}
+use Rattle.bk_load.proofs.FoundFiles.{found_all, found_ids, found_rise, have_read_one, ids_more, no_list_at, scanned_in, synced_more, synced_rows}
+use Rattle.bk_hint.proofs.RowTexts.{AllByRecursion-push}
 use Rattle.bk_load.proofs.Listings.{len_at_now}
 use Rattle.bk_load.proofs.Numbering.{are_numbers, number_len}
 use Rattle.bk_load.proofs.ReadLists.{from_low}
@@ -58,13 +59,13 @@ files-preserved g c = record {
       ∙ ids_more _ _ _ c.files.found.items c.in_ok-this.this c.files-test.true c.files.invariant.ids
       (ap (λ (f : FileId). f.0) c.in_ok-this.ensures.file);
   uncounted = subst (AllByRecursion IsUncounted) (sym c.in_ok-push.ensures.items)
-      (all_behind IsUncounted c.files.found.items c.in_ok-this.this c.files.invariant.uncounted c.in_ok-this.ensures.uncounted);
+      (AllByRecursion-push IsUncounted c.files.found.items c.in_ok-this.this c.files.invariant.uncounted c.in_ok-this.ensures.uncounted);
   found = λ tells.
       let image = (g.D.Disk.told c.args.disk.now).image in
       let this = subst (λ (i : Image). IsFound (at i) c.in_ok-this.this) (c.files.invariant.image tells)
       (c.in_ok-this.ensures.found tells) in
       subst (AllByRecursion (IsFound (at image))) (sym c.in_ok-push.ensures.items)
-      (all_behind (IsFound (at image)) c.files.found.items c.in_ok-this.this (c.files.invariant.found tells) this);
+      (AllByRecursion-push (IsFound (at image)) c.files.found.items c.in_ok-this.this (c.files.invariant.found tells) this);
   synced = λ tells.
       subst (AllByRecursion (λ (f : FileFound). IsSyncedFile (g.D.Disk.told c.read_file.new.disk) (main f.row.id.0)))
       (sym c.in_ok-push.ensures.items)

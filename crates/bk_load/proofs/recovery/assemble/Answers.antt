@@ -1,7 +1,6 @@
-use Rattle.std.proofs.Common.{◌≡◌, sym, subst, ◌∙◌}
+use Rattle.std.proofs.Common.{sym, subst, ◌∙◌}
 use Rattle.bk_load.specs.Counting.{RowsRise}
 use Rattle.bk_load.proofs.StartedLoads.{rows_rise_all}
-use Rattle.bk_load.proofs.Recovered.{sound_load}
 use Rattle.bk_load.proofs.recovery.assemble.Goals as goal
 
 pub count_versions-requires : goal.count_versions-requires

@@ -1,4 +1,3 @@
-use Rattle.std.proofs.Common.{◌≡◌}
 use Rattle.bk_load.proofs.Courses.{came_refl, course_ok}
 use Rattle.bk_load.proofs.recovery.clear_unless_odd.Goals as goal
 

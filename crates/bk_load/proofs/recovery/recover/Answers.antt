@@ -1,6 +1,6 @@
-use Rattle.std.proofs.Common.{◌≡◌, rules, List, ap, subst, sym, ◌∙◌}
+use Rattle.std.proofs.Common.{rules, List, ap, subst, sym, ◌∙◌}
 use Rattle.bk_base.specs.declared.rows.Row.{Row}
-use Rattle.bk_disk.specs.Told.{Image, Told, at, listing}
+use Rattle.bk_disk.specs.Told.{Image, Told, at}
 use Rattle.bk_load.specs.Directory.{greatest_in}
 use Rattle.bk_files.specs.Rows.{AreSyncedIfSealed}
 use Rattle.bk_load.specs.Directory.{IsCleared}
@@ -9,7 +9,8 @@ use Rattle.bk_load.specs.Lists.{AreLists, AreOdd}
 use Rattle.bk_load.specs.Loads.{IsLoadedFrom}
 use Rattle.bk_load.proofs.Courses.{came_trans, course_after}
 use Rattle.bk_load.proofs.Recovered.{sound_load}
-use Rattle.bk_load.proofs.StartedLoads.{are_files_of, fit_new, if_ok_map, is_in_order, is_loaded_from, no_list_still, on_ok_from, synced_counted}
+use Rattle.bk_load.proofs.StartedLoads.{are_files_of, fit_new, if_ok_map, is_in_order, is_loaded_from, on_ok_from, synced_counted}
+use Rattle.bk_load.proofs.Tidied.{no_list_still}
 use Rattle.bk_load.proofs.recovery.recover.Goals as goal
 
 pub settle_lists-requires : goal.settle_lists-requires

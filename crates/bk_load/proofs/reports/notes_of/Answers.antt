@@ -1,4 +1,4 @@
-use Rattle.std.proofs.Common.{◌≡◌, Some, None, sym, ap, ◌∙◌}
+use Rattle.std.proofs.Common.{ap, ◌∙◌}
 use Rattle.bk_load.proofs.ReportRows.{notes_no, notes_yes}
 use Rattle.bk_load.proofs.reports.notes_of.Goals.{in-Some+in_ok-push, in_default}
 use Rattle.bk_load.proofs.reports.notes_of.Goals as goal

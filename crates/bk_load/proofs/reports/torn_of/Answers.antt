@@ -1,7 +1,5 @@
-use Rattle.std.proofs.Common.{◌≡◌, List, [], ◌∷◌, ◌++◌, sym, ap, ◌∙◌, cond, Bool}
-use Rattle.std.proofs.lemmas.Bool.Decides.{nat_tests}
-use Rattle.bk_keydir.specs.declared.loads.Torn.{Torn}
-use Rattle.bk_load.proofs.ReportRows.{a_found, torn_more, torn_no, torn_yes}
+use Rattle.std.proofs.Common.{ap, ◌∙◌}
+use Rattle.bk_load.proofs.ReportRows.{torn_no, torn_yes}
 use Rattle.bk_load.proofs.reports.torn_of.Goals.{then-row+in_ok-push, else-row}
 use Rattle.bk_load.proofs.reports.torn_of.Goals as goal
 

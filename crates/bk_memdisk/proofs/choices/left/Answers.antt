@@ -2,6 +2,7 @@ use Rattle.std.proofs.Common.{◌≡◌, ◌<◌, ◌∙◌, ◌++◌, ◌∷◌
 use Rattle.std.proofs.lemmas.Grind.{common_steps}
 use Rattle.bk_base.specs.Bounds.{AreBytes}
 use Rattle.bk_memdisk.specs.Crash.{all_flipped}
+use Rattle.bk_base.proofs.Bytes.{AreBytes-take}
 use Rattle.bk_memdisk.proofs.Left
 use Rattle.bk_memdisk.proofs.choices.left.Goals as goal
 
@@ -10,7 +11,7 @@ loop-offset-init c =
     let start : c.in_ok-left.left.items ≡ take c.args.synced c.args.bytes.now = grind (arith, common_steps) in
     let small : AreBytes c.args.bytes.now = λ i. omega (arith, c.type_inv.bytes i) in (
       start ∙ sym (append-nil (take c.args.synced c.args.bytes.now)),
-      subst AreBytes (sym start) (Left.bytes_take c.args.synced c.args.bytes.now small),
+      subst AreBytes (sym start) (AreBytes-take c.args.synced c.args.bytes.now small),
     )
 
 pub loop-offset-preserved : goal.loop-offset-preserved

@@ -1,7 +1,7 @@
-use Rattle.std.proofs.Common.{rules, ◌≡◌, ◌≤◌, ◌+◌, ap, arith, length}
+use Rattle.std.proofs.Common.{rules, ap, arith}
 use Rattle.bk_session.proofs.Inboxes.{loses_piece, takes_piece}
 use Rattle.bk_session.proofs.inbox.next_piece.Goals as goal
-use Rattle.bk_wire.specs.Stream.{Stream, taken}
+use Rattle.bk_wire.specs.Stream.{Stream}
 
 pub returns-in-Ok-take-clause-gives : goal.returns-in-Ok-take-clause-gives
 returns-in-Ok-take-clause-gives g c =

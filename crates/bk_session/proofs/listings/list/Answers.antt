@@ -1,4 +1,4 @@
-use Rattle.std.proofs.Common.{Some, ap, refl, [], ◌∷◌, ◌-◌}
+use Rattle.std.proofs.Common.{[], ◌∷◌, ◌-◌}
 use Rattle.bk_session.specs.Outgoing.{outgoing}
 use Rattle.bk_session.specs.Serving.{Serves, session_state, tells_of}
 use Rattle.bk_session.proofs.Endings.{full_served, listing_served}

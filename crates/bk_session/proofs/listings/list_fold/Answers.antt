@@ -1,8 +1,5 @@
-use Rattle.std.proofs.Common.{arith, subst}
 use Rattle.bk_session.specs.declared.serving.Onward.TheVariants.{Sink}
 use Rattle.bk_session.specs.Outgoing.{outgoing}
-use Rattle.bk_store.proofs.AppendExits.{rose_since}
-use Rattle.bk_store.proofs.Pasts.{past_then}
 use Rattle.bk_session.proofs.Endings.{loop_begins, loop_breaks, loop_cut, loop_ends, loop_on, loop_runs_out}
 use Rattle.bk_session.proofs.listings.list_fold.Goals as goal
 use Rattle.bk_session.specs.Listing.{EndsAll, request_of}

@@ -1,4 +1,4 @@
-use Rattle.std.proofs.Common.{◌≡◌, ◌-◌, arith}
+use Rattle.std.proofs.Common.{◌-◌, arith}
 use Rattle.bk_session.proofs.Outboxes.{start_stays, pair_reply}
 use Rattle.bk_session.proofs.outbox.put_pair_reply.Goals as goal
 

@@ -1,4 +1,4 @@
-use Rattle.std.proofs.Common.{◌≡◌, ◌∙◌, ℕ, ◌+◌, ◌-◌, ◌≤◌, ◌++◌, length, drop, arith, ap}
+use Rattle.std.proofs.Common.{◌≡◌, ◌∙◌, ℕ, ◌-◌, ◌≤◌, ◌++◌, length, drop, arith, ap}
 use Rattle.std.proofs.lemmas.List.{length-drop, length-take}
 use Rattle.bk_session.proofs.Outboxes.{is_value, read_behind, value_stays}
 use Rattle.bk_session.proofs.outbox.put_value.Goals as goal

@@ -1,4 +1,4 @@
-use Rattle.std.proofs.Common.{◌≡◌, ◌∙◌, ◌≤◌, ap, arith, sym, refl, Some}
+use Rattle.std.proofs.Common.{◌∙◌, ap, arith, sym, refl}
 use Rattle.bk_session.proofs.Ways.{no_inbox, nothing_come}
 use Rattle.bk_session.proofs.sessions.session.Goals as goal
 use Rattle.bk_store.proofs.Pasts.{past_same, past_then}

@@ -1,7 +1,8 @@
 use Rattle.std.proofs.Common.{◌∙◌, ap, sym}
 use Rattle.bk_files.specs.Catalog.{edited, with_counts}
 use Rattle.bk_files.specs.Files.{Seen, rows_of}
-use Rattle.bk_store.proofs.Sweeping.{counts_set, taken_row}
+use Rattle.bk_store.proofs.RowEdits.{counts_alone}
+use Rattle.bk_store.proofs.Sweeping.{taken_row}
 use Rattle.bk_store.proofs.counting.take_refs.Goals as goal
 
 pub returns-in-Some-clause-rows : goal.returns-in-Some-clause-rows
@@ -13,5 +14,5 @@ returns-in-Some-clause-rows g c =
 
 pub returns-in-Some-clause-alone : goal.returns-in-Some-clause-alone
 returns-in-Some-clause-alone g c =
-    counts_set g.D.Disk.tells c.args.files.now c.count.new.self c.args.version.file.0 c.in-Some.row.live c.saturating_sub.result
+    counts_alone g.D.Disk.tells c.args.files.now c.count.new.self c.args.version.file.0 c.in-Some.row.live c.saturating_sub.result
     c.count.ensures.counts c.count.ensures.consistent c.count.ensures.scratch c.count.ensures.synced

@@ -1,5 +1,5 @@
 use Rattle.std.specs.Prelude.{true}
-use Rattle.std.proofs.Common.{◌≡◌, Err, None, Option, Some, ap, refl, subst, ◌∙◌, ℕ}
+use Rattle.std.proofs.Common.{◌≡◌, None, Option, Some, refl, subst, ℕ}
 use Rattle.bk_base.specs.declared.calls.Call.TheVariants.{Get as get_call}
 use Rattle.bk_keydir.specs.Keydir.{newest_of, versions_of}
 use Rattle.bk_laws.specs.History.{log_of}

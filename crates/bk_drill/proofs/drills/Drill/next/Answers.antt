@@ -1,4 +1,4 @@
-use Rattle.std.proofs.Common.{◌≡◌, ℕ, None, Some, Option, ap, refl, subst, sym}
+use Rattle.std.proofs.Common.{◌≡◌, ℕ, None, refl, subst, sym}
 use Rattle.std.specs.Prelude.{true}
 use Rattle.bk_base.specs.declared.calls.Call.TheVariants.{FoldNext}
 use Rattle.bk_store.specs.Events.{Keeps, entry_by}
