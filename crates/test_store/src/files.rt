@@ -13,7 +13,6 @@ use bk_memdisk::{Choice, MemDisk};
 use bk_record::encode;
 use std::alloc::Global;
 use std::process::Abort;
-use std::test::Fail;
 
 const FIRST: Name = Name {
     id: 1,
@@ -209,8 +208,8 @@ enum Before {
 type Lengths = (usize, Option<usize>);
 
 // Before the put stand three calls of the disk. How many more are done, with what effect the next one
-// fails, and then what a crash leaves: first where it keeps all bytes, and then where it keeps the synced ones alone. A record
-// has 2,048 bytes.
+// fails, and then what a crash leaves: first where it keeps all bytes, and then where it keeps the
+// synced ones alone. A record has 2,048 bytes.
 const STOPS: [(Before, u64, u64, Lengths, Lengths); 20] = [
     (Before::Synced, 0, 0, (2048, None), (2048, None)),
     (Before::Synced, 0, 1, (2049, None), (2048, None)),
@@ -270,18 +269,28 @@ fn left(
     files.into_disk().crash(&choice).expect(rt, "memory")
 }
 
+// The text twice.
+fn doubled(rt: &impl Abort, alloc: Global, text: &[u8]) -> Vec<u8> {
+    let mut twice = text.to_vec(alloc).expect(rt, "memory");
+    twice.extend_from_slice(text).expect(rt, "memory");
+    twice
+}
+
+// The two files hold so many of these bytes.
+fn assert_left(rt: &impl Abort, disk: &MemDisk, bytes: &[u8], lengths: Lengths) {
+    let (first, second) = lengths;
+    assert_eq!(*rt; disk.bytes(FIRST), bytes.get(..first));
+    assert_eq!(*rt; disk.bytes(SECOND), second.and_then(|len| bytes.get(..len)));
+}
+
 #[test]
-fn a_crash_leaves_what_was_done_or_synced(rt: HostRuntime) -> Result<(), Fail> {
+fn a_crash_leaves_what_was_done_or_synced(rt: HostRuntime) {
     let text = record(&rt, rt.alloc(), 2025);
-    let mut twice = text.to_vec(rt.alloc())?;
-    twice.extend_from_slice(&text)?;
+    let twice = doubled(&rt, rt.alloc(), &text);
     for (before, calls, effect, done, synced) in STOPS {
-        for (keep, (first, second)) in [(None, done), (Some(0), synced)] {
-            let stop = (before, calls, effect);
-            let left = left(&rt, rt.alloc(), stop, &text, keep);
-            assert_eq!(rt; left.bytes(FIRST), twice.get(..first));
-            assert_eq!(rt; left.bytes(SECOND), second.and_then(|len| text.get(..len)));
+        for (keep, lengths) in [(None, done), (Some(0), synced)] {
+            let left = left(&rt, rt.alloc(), (before, calls, effect), &text, keep);
+            assert_left(&rt, &left, &twice, lengths);
         }
     }
-    Ok(())
 }

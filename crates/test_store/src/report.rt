@@ -3,7 +3,8 @@ use bk_base::{FileId, Kind, Name, Row, RowState};
 use bk_hint::Verdict;
 use bk_keydir::{HintNote, Report, Torn};
 use bk_report::write_report;
-use std::test::Fail;
+use std::alloc::Global;
+use std::process::Abort;
 
 const WHOLE: &[u8] = b"FILE 1 72 24 24\nTORN 1 24 48\nHINT 1 NOTWHOLE\n\
 FILE 2 72 24 24\nHINT 2 BADCHECK 000000ff cbf43926\n\
@@ -30,30 +31,29 @@ fn note(id: u32, verdict: Verdict) -> HintNote {
     }
 }
 
-#[test]
-fn each_line_is_written(rt: HostRuntime) -> Result<(), Fail> {
-    let alloc = rt.alloc();
-    let last = 4_294_967_294;
-    let rows = [row(1), row(2), row(5), row(6), row(last)];
-    let hints = vec![in alloc;
+const LAST: u32 = 4_294_967_294;
+
+// A note of each verdict.
+fn notes(rt: &impl Abort, alloc: Global) -> Vec<HintNote> {
+    let stored = Verdict::BadCheck {
+        stored: 255,
+        computed: 0xcbf4_3926,
+    };
+    let good = Verdict::Good {
+        covered: 24,
+        rows: 1,
+    };
+    vec![in alloc;
         note(1, Verdict::NotWhole),
-        note(
-            2,
-            Verdict::BadCheck {
-                stored: 255,
-                computed: 0xcbf4_3926
-            }
-        ),
+        note(2, stored),
         note(5, Verdict::LengthDiffers { said: 25, is: 24 }),
         note(6, Verdict::BadRow(3)),
-        note(
-            last,
-            Verdict::Good {
-                covered: 24,
-                rows: 1
-            }
-        ),
-    ]?;
+        note(LAST, good),
+    ]
+    .expect(rt, "memory")
+}
+
+fn report(rt: &impl Abort, alloc: Global) -> Report {
     let torn = Torn {
         file: FileId(1),
         at: 24,
@@ -63,18 +63,20 @@ fn each_line_is_written(rt: HostRuntime) -> Result<(), Fail> {
         id: 7,
         kind: Kind::Swap,
     };
-    let report = Report {
-        torn: vec![in alloc; torn]?,
-        hints,
-        odd: vec![in alloc; odd]?,
+    Report {
+        torn: [torn].to_vec(alloc).expect(rt, "memory"),
+        hints: notes(rt, alloc),
+        odd: [odd].to_vec(alloc).expect(rt, "memory"),
         hinted: 1,
         scanned: 4,
-    };
-    let mut out = Vec::new(alloc);
-    write_report(&mut out, &rows, &report)?;
-    if out.as_slice() == WHOLE {
-        Ok(())
-    } else {
-        Err("another report")?
     }
+}
+
+#[test]
+fn each_line_is_written(rt: HostRuntime) {
+    let rows = [row(1), row(2), row(5), row(6), row(LAST)];
+    let report = report(&rt, rt.alloc());
+    let mut out = Vec::new(rt.alloc());
+    write_report(&mut out, &rows, &report).expect(&rt, "memory");
+    assert!(rt; out.as_slice() == WHOLE, "another report");
 }

@@ -3,17 +3,18 @@ use Rattle.bk_laws.specs.Record.{size_of}
 use Rattle.bk_files.proofs.FirstRecords.{first-more}
 use Rattle.test_store.proofs.scans.all_of.Goals as goal
 
-pub loop-writes-preserved : goal.loop-writes-preserved
-loop-writes-preserved g c = record {
+pub loop-found-preserved : goal.loop-found-preserved
+loop-found-preserved g c = record {
   rest = c.next.ensures.rest;
-  told = λ told. c.next.ensures.told (c.loop-writes.invariant.told told);
-  len = c.next.ensures.len ∙ c.loop-writes.invariant.len;
+  told = λ told. c.next.ensures.told (c.loop-found.invariant.told told);
+  len = c.next.ensures.len ∙ c.loop-found.invariant.len;
   first = λ told.
-      let found = c.in_ok-found.ensures.found (c.loop-writes.invariant.told told) in
-      let stands = rw c.in-Some.is at found in
-      let placed = rw c.in-Some.is at c.in_ok-found.ensures.placed in
-      let place : c.next.new.self.place ≡ c.loop-writes.scan.place + size_of c.in-Some.found.write =
-      placed.behind ∙ ap (λ (n : ℕ). c.loop-writes.scan.place + n) placed.size in
-      rw (c.in_ok-push.ensures.items, place)
-      (first-more _ _ _ _ _ c.in-Some.found.write _ (c.loop-writes.invariant.first told) stands);
+      let next = rw c.expect.ensures at c.next.ensures.found (c.loop-found.invariant.told told) in
+      let stands = rw c.in-Some.is at next in
+      let there = rw c.expect.ensures at c.next.ensures.placed in
+      let placed = rw c.in-Some.is at there in
+      let place : c.next.new.self.place ≡ c.loop-found.scan.place + size_of c.in-Some.found.write =
+      placed.behind ∙ ap (λ (n : ℕ). c.loop-found.scan.place + n) placed.size in
+      rw (c.push.ensures.items, c.expect-in-Some.ensures, place)
+      (first-more _ _ _ _ _ c.in-Some.found.write _ (c.loop-found.invariant.first told) stands);
 }
