@@ -8,7 +8,7 @@ use Rattle.bk_base.specs.declared.statuses.Status.TheVariants.{Disk}
 use Rattle.bk_base.specs.declared.writes.Write.{Write}
 use Rattle.bk_disk.specs.Causes.{Rose, most}
 use Rattle.bk_disk.specs.Counts.{Counted}
-use Rattle.bk_disk.specs.Told.{Front, Table, Told, clock}
+use Rattle.bk_disk.specs.Told.{Front, Table, clock}
 use Rattle.bk_exchange.specs.Sessions.{exchanges}
 use Rattle.bk_image.proofs.HoldsCrashes.{holds_now, holds_prefix}
 use Rattle.bk_image.specs.SoundDirectory.{IsSoundDisk}

@@ -1,11 +1,9 @@
 -- From an event of the store to an action of a drill.
-use Rattle.std.proofs.Common.{◌≡◌, ◌∙◌, ℕ, ◌+◌, ◌-◌, ◌<◌, ◌≤◌, Bool, true, false, List, [], ◌∷◌, ◌++◌, Option, Some, None}
-use Rattle.std.proofs.Common.{refl, sym, ap, subst, arith, inl, inr}
-use Rattle.std.specs.Prelude.{IsTrue, min, ◌≢◌, ◌⊎◌, length}
+use Rattle.std.proofs.Common.{◌≡◌, ◌∙◌, ℕ, ◌<◌, Bool, true, false, List, [], ◌∷◌, ◌++◌, Option}
+use Rattle.std.proofs.Common.{refl, sym, ap, subst, inl, inr}
+use Rattle.std.specs.Prelude.{IsTrue, min, length}
 use Rattle.bk_base.specs.declared.calls.Answer.{Answer}
-use Rattle.bk_base.specs.declared.calls.Answer.TheVariants.{Done}
 use Rattle.bk_base.specs.declared.calls.Call.{Call}
-use Rattle.bk_base.specs.declared.calls.Call.TheVariants.{Quiet}
 use Rattle.bk_base.specs.declared.calls.Entry.{Entry}
 use Rattle.bk_base.specs.declared.histories.OpenFold.{OpenFold}
 use Rattle.bk_base.specs.declared.histories.Opening.{Opening}
@@ -18,7 +16,7 @@ use Rattle.bk_keydir.specs.declared.slots.Slot.{Slot}
 use Rattle.bk_laws.specs.History.{State, after, changed, state_after}
 use Rattle.bk_script.specs.declared.lines.Action.{Action}
 use Rattle.bk_script.specs.declared.printed.Printed.{Printed}
-use Rattle.bk_store.specs.Events.{GoesOn, Keeps, Refuses, entry_by, quiet_by}
+use Rattle.bk_store.specs.Events.{GoesOn, Keeps, Refuses, entry_by}
 use Rattle.bk_store.specs.Loans.{Lent}
 use Rattle.bk_store.specs.Shown.{Shown}
 use Rattle.bk_store.specs.Sweeps.{last_count}

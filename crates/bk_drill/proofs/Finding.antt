@@ -1,7 +1,7 @@
 -- Values that are located and read: from what the store did to the action.
-use Rattle.std.proofs.Common.{◌≡◌, ◌∙◌, ℕ, ◌+◌, ◌-◌, ◌==◌, ◌≤◌, Bool, true, false, cond, List, [], ◌∷◌, drop, Option, Some, None}
-use Rattle.std.proofs.Common.{refl, sym, ap, subst, arith, inl, inr}
-use Rattle.std.specs.Prelude.{IsTrue, ◌≢◌, ◌⊎◌, length}
+use Rattle.std.proofs.Common.{◌≡◌, ◌∙◌, ℕ, ◌-◌, ◌==◌, ◌≤◌, Bool, true, false, cond, List, [], drop, Option, Some, None}
+use Rattle.std.proofs.Common.{refl, sym, ap, subst, inl, inr}
+use Rattle.std.specs.Prelude.{IsTrue, ◌⊎◌, length}
 use Rattle.std.proofs.lemmas.Bool.{false_from_ne_true, cases_Bool}
 use Rattle.std.proofs.lemmas.List.{append-nil}
 use Rattle.bk_base.specs.declared.calls.Answer.TheVariants.{Done, Found, Nothing}
@@ -11,7 +11,7 @@ use Rattle.bk_base.specs.declared.histories.Step.{Step}
 use Rattle.bk_base.specs.declared.writes.Write.{Write}
 use Rattle.bk_disk.specs.Causes.{Rose, bumped}
 use Rattle.bk_keydir.specs.declared.slots.Slot.{Slot}
-use Rattle.bk_laws.specs.History.{State, log_of}
+use Rattle.bk_laws.specs.History.{log_of}
 use Rattle.bk_laws.specs.Log.{winner}
 use Rattle.bk_script.specs.declared.lines.Action.TheVariants.{Get, Read as read_action}
 use Rattle.bk_script.specs.declared.printed.Printed.{Printed}
@@ -23,9 +23,9 @@ use Rattle.bk_store.specs.Shown.{Shown}
 use Rattle.bk_store.specs.Standing.{StandsFor}
 use Rattle.bk_session.specs.Following.{Follows}
 use Rattle.bk_session.proofs.Events.{Still, rises_by_fault, rises_by_faults, step_of}
-use Rattle.bk_session.proofs.Reading.{rises_by_view, still_files}
-use Rattle.bk_drill.specs.Actions.{Acts, IsUnread, Reads, is_numbered}
-use Rattle.bk_drill.specs.Between.{Between, Kept, state_at, with_kept}
+use Rattle.bk_session.proofs.Reading.{rises_by_view}
+use Rattle.bk_drill.specs.Actions.{IsUnread, Reads, is_numbered}
+use Rattle.bk_drill.specs.Between.{Between, Kept, with_kept}
 use Rattle.bk_drill.specs.declared.drills.Drill.{Drill}
 use Rattle.bk_drill.specs.Loans.{IsUnreadFor, loan_in, tally_in}
 use Rattle.bk_drill.specs.Shown.{IsAt, LoanIs}

@@ -13,7 +13,6 @@ use Rattle.bk_base.specs.declared.histories.OpenFold.{OpenFold}
 use Rattle.bk_base.specs.declared.histories.Opening.{Opening}
 use Rattle.bk_base.specs.declared.histories.Step.{Step}
 use Rattle.bk_base.specs.declared.limits.TheConstants.{MOST_FOLDS}
-use Rattle.bk_base.specs.declared.numbers.Seq.{Seq}
 use Rattle.bk_base.specs.declared.requests.Full.TheVariants.{Folds}
 use Rattle.bk_base.specs.declared.writes.Write.{Write}
 use Rattle.bk_disk.specs.Causes.{Rose, bumped}
@@ -24,8 +23,7 @@ use Rattle.bk_keydir.specs.declared.slots.Slot.{Slot}
 use Rattle.bk_keydir.specs.Keydir.{Entry}
 use Rattle.bk_keydir.specs.Keydir.{Shown as KeydirShown}
 use Rattle.bk_keydir.specs.Slots.{opened, past, slot_at, who_of}
-use Rattle.bk_laws.specs.History.{IsOwn, State, after, is_open, is_slot, log_of, state_after, with_listed}
-use Rattle.bk_laws.specs.Log.{cut_at, winner}
+use Rattle.bk_laws.specs.History.{is_open, is_slot, log_of, with_listed}
 use Rattle.bk_script.specs.declared.lines.Action.{Action}
 use Rattle.bk_script.specs.declared.lines.Action.TheVariants.{End, Fold as fold_action, Next}
 use Rattle.bk_script.specs.declared.printed.Printed.{Printed}
@@ -33,26 +31,25 @@ use Rattle.bk_script.specs.declared.printed.Printed.TheVariants.{Closed, Damaged
 use Rattle.bk_store.specs.declared.folds.Fold.{Fold}
 use Rattle.bk_store.specs.Events.{Keeps, entry_by, quiet_by}
 use Rattle.bk_store.specs.declared.folds.Row2.{Row2}
-use Rattle.bk_store.specs.FoldEvents.{IsClosed, IsOpened, LendsPair, LendsPairOf, ListsIn, ListsNext, ListsPair, lent_of, next_reply}
+use Rattle.bk_store.specs.FoldEvents.{IsClosed, IsOpened, LendsPair, ListsIn, ListsNext, lent_of, next_reply}
 use Rattle.bk_store.specs.Folds.{SlotStands}
 use Rattle.bk_store.specs.Loans.{Lent, check_of, view_of}
 use Rattle.bk_store.specs.Shown.{Shown, known_bytes}
 use Rattle.bk_store.specs.Standing.{StandsFor}
 use Rattle.bk_store.specs.Sweeps.{last_count}
 use Rattle.bk_store.proofs.FoldOpens.{first_is_free}
-use Rattle.bk_session.specs.Following.{Follows}
 use Rattle.bk_session.proofs.Events.{Rises, Still, counts_of, is_step_of, rises_by_fault, rises_by_faults, step_of}
 use Rattle.bk_session.proofs.FoldCalls.{owned}
 use Rattle.bk_store.proofs.FoldSteps.{slot_within}
 use Rattle.bk_session.proofs.Following.{KeepsSettings, agrees_on, closed_slots, listed_slots, opened_slots}
 use Rattle.bk_session.proofs.Reading.{RisesByView, rises_by_view, still_files}
-use Rattle.bk_drill.specs.Actions.{Acts, AreQuiet, Does, HasNoFold, IsAnswered, IsNoFold, IsRefusedFor, IsSpoilt, is_numbered, listed_by}
+use Rattle.bk_drill.specs.Actions.{AreQuiet, Does, HasNoFold, IsAnswered, IsNoFold, IsRefusedFor, IsSpoilt, is_numbered, listed_by}
 use Rattle.bk_drill.specs.Actions.{Keeps as KeepsLoans}
-use Rattle.bk_drill.specs.Between.{Between, Kept, state_at}
+use Rattle.bk_drill.specs.Between.{Between, state_at}
 use Rattle.bk_drill.specs.declared.drills.Drill.{Drill}
-use Rattle.bk_drill.specs.Loans.{IsUnreadFor, ShowsPair, loan_in, tally_in}
+use Rattle.bk_drill.specs.Loans.{ShowsPair, loan_in, tally_in}
 use Rattle.bk_drill.specs.Shown.{IsAt, LoanIs}
-use Rattle.bk_drill.proofs.Acting.{Result, acts_once, folds_after, keeps_in, listed_still, still_acts}
+use Rattle.bk_drill.proofs.Acting.{Result, acts_once, folds_after, keeps_in, still_acts}
 use Rattle.bk_drill.proofs.Finding.{unread_is}
 use Rattle.bk_drill.proofs.Writing.{GoesBy, loans_kept}
 use Rattle.bk_session.proofs.FoldRows.{lists_pair, lends_checked}

@@ -1,8 +1,7 @@
 -- What a read gives an inbox.
-use Rattle.std.proofs.Common.{◌≡◌, ◌∙◌, ℕ, ◌+◌, ◌<◌, ◌≤◌, List, ◌++◌, length, take, drop, Bool, sym, ap}
+use Rattle.std.proofs.Common.{◌≡◌, ℕ, ◌+◌, ◌<◌, ◌≤◌, List, ◌++◌, length, take, drop, Bool}
 use Rattle.std.proofs.Common.{arith, IsTrue}
-use Rattle.std.proofs.Math.Seq.{drop-drop}
-use Rattle.std.proofs.lemmas.List.{length-take-le, take-append-drop}
+use Rattle.std.proofs.lemmas.List.{length-take-le}
 use Rattle.bk_disk.specs.Streams.{Takes}
 use Rattle.bk_drill.specs.Running.{LosesPiece, TakesPiece}
 use Rattle.bk_script.specs.Script.{Script, taken}

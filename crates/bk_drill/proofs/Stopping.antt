@@ -1,6 +1,6 @@
 -- A drill over a store that was recovered: from what a crash left, and from an empty disk.
-use Rattle.std.proofs.Common.{◌≡◌, ◌∙◌, ℕ, ◌+◌, ◌<◌, ◌≤◌, Bool, true, false, List, [], ◌∷◌, ◌++◌, length, map, Option, Some, None}
-use Rattle.std.proofs.Common.{refl, sym, ap, subst, arith}
+use Rattle.std.proofs.Common.{◌≡◌, ◌∙◌, ℕ, Bool, true, false, List, [], ◌∷◌, length, map, Option, None}
+use Rattle.std.proofs.Common.{refl, sym, ap, subst}
 use Rattle.std.specs.Prelude.{IsTrue, ◌&&◌, min}
 use Rattle.std.proofs.Math.Nat.{zero-min}
 use Rattle.bk_base.specs.declared.limits.TheConstants.{MOST_FOLDS}
@@ -51,7 +51,7 @@ use Rattle.bk_session.proofs.Sizes.{size_is}
 use Rattle.bk_drill.specs.declared.drills.Drill.{Drill}
 use Rattle.bk_drill.specs.declared.stops.Recovered.{Recovered}
 use Rattle.bk_drill.specs.Actions.{listed_by}
-use Rattle.bk_drill.specs.Between.{Begins, Between, IsEmpty, log_at}
+use Rattle.bk_drill.specs.Between.{Begins, Between, log_at}
 use Rattle.bk_drill.specs.Drills.{IsTest}
 use Rattle.bk_drill.specs.Lines.{Crash, IsDiskOf, Stops, Test, crash_of, is_clear, line_of_torn}
 use Rattle.bk_drill.specs.Progress.{IsNew, IsOver, IsRecovered, IsStopped, RunsAs, reopened_lines}

@@ -1,12 +1,11 @@
 -- Writes and syncs: from what the store did to the action.
-use Rattle.std.proofs.Common.{◌≡◌, ◌∙◌, ℕ, ◌+◌, ◌-◌, ◌<◌, ◌≤◌, Bool, true, false, List, [], ◌∷◌, ◌++◌, length, Option, Some, None}
+use Rattle.std.proofs.Common.{◌≡◌, ◌∙◌, ℕ, ◌+◌, ◌-◌, ◌≤◌, Bool, true, false, List, [], ◌∷◌, ◌++◌, length, Option, Some, None}
 use Rattle.std.proofs.Common.{refl, sym, ap, subst, arith, inl, inr}
-use Rattle.std.specs.Prelude.{IsTrue, ◌≢◌, ◌⊎◌, replicate}
+use Rattle.std.specs.Prelude.{IsTrue}
 use Rattle.std.proofs.lemmas.List.{append-nil, length-replicate}
-use Rattle.bk_base.specs.declared.calls.Answer.{Answer}
-use Rattle.bk_base.specs.declared.calls.Answer.TheVariants.{Done, Nothing, Numbered as numbered_answer}
+use Rattle.bk_base.specs.declared.calls.Answer.TheVariants.{Nothing, Numbered as numbered_answer}
 use Rattle.bk_base.specs.declared.calls.Call.{Call}
-use Rattle.bk_base.specs.declared.calls.Call.TheVariants.{Put as put_call, Delete as delete_call, Reap as reap_call, Quiet, Sync as sync_call}
+use Rattle.bk_base.specs.declared.calls.Call.TheVariants.{Put as put_call, Delete as delete_call, Reap as reap_call, Sync as sync_call}
 use Rattle.bk_base.specs.declared.calls.Entry.{Entry}
 use Rattle.bk_base.specs.declared.histories.Opening.{Opening}
 use Rattle.bk_base.specs.declared.histories.Snapshot.{Snapshot}
@@ -23,7 +22,7 @@ use Rattle.bk_disk.specs.Told.{untold}
 use Rattle.bk_exchange.specs.Refusals.{active_len, needs_file}
 use Rattle.bk_files.specs.Files.{is_due}
 use Rattle.bk_keydir.specs.declared.slots.Slot.{Slot}
-use Rattle.bk_laws.specs.History.{State, changed, log_of, state_after}
+use Rattle.bk_laws.specs.History.{State, changed}
 use Rattle.bk_laws.specs.Log.{last_seq}
 use Rattle.bk_laws.specs.Record.{size_of}
 use Rattle.bk_script.specs.declared.lines.Action.{Action}
@@ -35,18 +34,18 @@ use Rattle.bk_store.specs.declared.errors.PutError.TheVariants.{FullSeq, FullFil
 use Rattle.bk_store.specs.declared.errors.PutError.TheVariants.{Memory as put_memory}
 use Rattle.bk_store.specs.declared.puts.Stored.{Stored}
 use Rattle.bk_store.specs.Appends.{tried_by}
-use Rattle.bk_store.specs.Events.{GoesOn, IsLeft, Keeps, Refuses, entry_by, next_write, quiet_by}
+use Rattle.bk_store.specs.Events.{GoesOn, IsLeft, Refuses, entry_by, next_write, quiet_by}
 use Rattle.bk_store.specs.History.{last_snapshot}
 use Rattle.bk_store.specs.Loans.{Lent}
 use Rattle.bk_store.specs.Shown.{Shown}
 use Rattle.bk_store.specs.Standing.{StandsFor}
 use Rattle.bk_store.specs.Writes.{Buries, IsBuried, IsWriteError, IsWritten, KeepsRest, bury_reply}
 use Rattle.bk_store.proofs.Answering.{seq_kept}
-use Rattle.bk_session.specs.Following.{Agrees, Follows, snapshot_in}
+use Rattle.bk_session.specs.Following.{Follows, snapshot_in}
 use Rattle.bk_session.proofs.ActiveRows.{last_in, needs_in}
-use Rattle.bk_session.proofs.Events.{Rises, Still, counts_of, is_step_of, rises_by_fault, rises_by_faults, step_of}
-use Rattle.bk_session.proofs.Following.{KeepsSettings, follows_still, follows_write}
-use Rattle.bk_session.proofs.Writes.{write_at, buried_none, buried_some, settings_kept}
+use Rattle.bk_session.proofs.Events.{Rises, counts_of, is_step_of, rises_by_fault, rises_by_faults, step_of}
+use Rattle.bk_session.proofs.Following.{follows_still, follows_write}
+use Rattle.bk_session.proofs.Writes.{buried_none, buried_some, settings_kept}
 use Rattle.bk_drill.specs.Actions.{AreQuiet, Does, HasNoFile, IsRefusedFor, Tries, asks_disk, call_of, is_writing, size_asked, write_asked}
 use Rattle.bk_drill.specs.Actions.{IsAnswered, line_of, write_of, xs}
 use Rattle.bk_drill.specs.Actions.{Keeps as KeepsLoans}
@@ -55,7 +54,7 @@ use Rattle.bk_drill.specs.Progress.{line_of_put}
 use Rattle.bk_drill.specs.declared.drills.Drill.{Drill}
 use Rattle.bk_drill.specs.Loans.{loan_in, tally_in}
 use Rattle.bk_drill.specs.Shown.{IsAt, LoanIs}
-use Rattle.bk_drill.proofs.Acting.{Result, acts_once, goes_in, listed_still, refuses_in, still_acts}
+use Rattle.bk_drill.proofs.Acting.{Result, acts_once, goes_in, listed_still, still_acts}
 
 -- the drill went on, and but for its store is as it was
 pub record GoesBy (old new : Drill) : Type 0 where
@@ -196,6 +195,9 @@ refused_acts old new b who action w e at by rest error refuses size writing disk
     (listed_still old b step q (tally_in new.tallies) at by.listed refl refl)
 
 -- ---- put
+
+pub write_at : ℕ → Moment → List ℕ → Body → Write
+write_at n now key body = record { seq = record { 0 = n }; moment = now; key = key; body = body }
 
 next_is : (old : Drill) (b : Between) (key : List ℕ) (body : Body) → IsAt old b
     → next_write old.store old.now key body ∷ [] ≡ write_at (last_seq (log_at b) + 1) b.moment key body ∷ []

@@ -1,5 +1,5 @@
 -- What each line of a script does, and the lines that it prints.
-use Rattle.std.specs.Prelude.{◌≡◌, ◌≢◌, ◌⊎◌, ℕ, ◌<◌, ◌≤◌, ◌&&◌, Bool, true, IsTrue, IsSome, List, [], ◌∷◌, ◌++◌, length, map, Option, None, Some}
+use Rattle.std.specs.Prelude.{◌≡◌, ◌≢◌, ◌⊎◌, ℕ, ◌<◌, ◌≤◌, ◌&&◌, Bool, true, IsTrue, IsSome, List, [], ◌∷◌, ◌++◌, length, map, Option}
 use Rattle.bk_base.specs.declared.histories.StoreSettings.{StoreSettings}
 use Rattle.bk_disk.specs.Crashes.{MayLeave}
 use Rattle.bk_disk.specs.Told.{Front, Image, Table, Told, at, listing}

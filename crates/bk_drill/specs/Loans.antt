@@ -1,5 +1,5 @@
 -- What the actors of a drill keep, and how far their folds are.
-use Rattle.std.specs.Prelude.{◌≡◌, ◌≢◌, ◌⊎◌, ℕ, true, List, drop, slice_index_or, Option, None, Some}
+use Rattle.std.specs.Prelude.{◌≡◌, ◌≢◌, ◌⊎◌, ℕ, true, List, drop, slice_index_or, Option, None}
 use Rattle.bk_script.specs.declared.printed.Printed.{Printed}
 use Rattle.bk_script.specs.declared.printed.Printed.TheVariants.{Damaged, Memory, Pair, Read}
 use Rattle.bk_store.specs.declared.errors.ReadError.{ReadError}

@@ -1,10 +1,8 @@
 -- When a drill stands between two lines as is said of it.
-use Rattle.std.specs.Prelude.{◌≡◌, ℕ, ◌<◌, Bool, true, IsTrue, List, drop, length, min, Option, None, Some}
+use Rattle.std.specs.Prelude.{◌≡◌, ℕ, ◌<◌, Bool, IsTrue, drop, length, min, Option, None, Some}
 use Rattle.bk_base.specs.declared.limits.TheConstants.{MOST_FOLDS}
-use Rattle.bk_base.specs.declared.numbers.Moment.{Moment}
 use Rattle.bk_session.specs.Following.{Follows}
 use Rattle.bk_store.specs.Loans.{Lent, check_of}
-use Rattle.bk_store.specs.Shown.{Shown}
 use Rattle.bk_store.specs.Sweeps.{last_count}
 use Rattle.bk_drill.specs.declared.drills.Drill.{Drill}
 use Rattle.bk_drill.specs.Actions.{listed_by}

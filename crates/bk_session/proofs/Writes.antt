@@ -145,7 +145,7 @@ put_told key value now FullFiles = refl
 put_told key value now put_disk = refl
 put_told key value now put_memory = refl
 
-pub write_at : ℕ → Moment → List ℕ → Body → Write
+write_at : ℕ → Moment → List ℕ → Body → Write
 write_at n now key body = record { seq = record { 0 = n }; moment = now; key = key; body = body }
 
 put_next : (v : Shown) (key value : List ℕ) (now : Moment) (log : List Write) → v.seq ≡ last_seq log

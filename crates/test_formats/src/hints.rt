@@ -1,9 +1,9 @@
-ghost use Rattle.std.specs.Prelude.{◌≡◌, [], ◌∷◌, IfOk};
+ghost use Rattle.std.specs.Prelude.{◌≡◌, [], ◌∷◌};
 
-use bk_base::{FileId, Key, Memory, Moment, Seq, Version};
+use bk_base::{FileId, Key, Moment, Seq, Version};
 use bk_hint::{HintIn, HintOut, HintRow, Verdict, judge};
 use std::alloc::Global;
-use std::test::Fail;
+use std::process::Abort;
 
 // Packed by Python's struct and zlib: the hint of a file with the one record of seq 1 at moment 5 that
 // puts `1` for the key `a`.
@@ -37,56 +37,69 @@ const TOMBSTONE: Version = Version {
     gone: true,
 };
 
-fn row(alloc: Global, version: Version) -> Result<HintRow, Fail>
-    ensures { IfOk result (λ row. (row.version ≡ version) × (row.key ≡ 97 ∷ [])) }
+fn row(rt: &impl Abort, alloc: Global, version: Version) -> HintRow
+    ensures version { result.version ≡ version }
+    ensures key { result.key ≡ 97 ∷ [] }
 {
-    Ok(HintRow {
+    HintRow {
         version,
-        key: Key::new(b"a".to_vec(alloc)?)?,
-    })
+        key: Key::of(alloc, b"a").expect(rt, "memory"),
+    }
 }
 
 // The versions that a hint of this data file's length tells, where it is Good.
-fn versions_in(alloc: Global, bytes: &[u8], len: u64) -> Result<Vec<Version>, Memory> {
+fn versions_in(rt: &impl Abort, alloc: Global, bytes: &[u8], len: u64) -> Vec<Version> {
     let mut found = Vec::new(alloc);
     if let Verdict::Good { rows, .. } = judge(bytes, len) {
         let mut reader = HintIn::new(FileId(1));
         for _ in 0..rows {
-            if let Some(row) = reader.next(alloc, bytes)? {
-                found.push(row.version)?;
+            if let Some(row) = reader.next(alloc, bytes).expect(rt, "memory") {
+                found.push(row.version).expect(rt, "memory");
             }
         }
     }
-    Ok(found)
+    found
 }
 
 #[test]
-fn rows_are_written_and_read_again(rt: HostRuntime) -> Result<(), Fail> {
+fn rows_are_written(rt: HostRuntime) {
     let mut hint = HintOut::new();
     let mut out = Vec::new(rt.alloc());
-    hint.add(&row(rt.alloc(), PUT)?, &mut out)?;
+    hint.add(&row(&rt, rt.alloc(), PUT), &mut out)
+        .expect(&rt, "memory");
     let mut first = hint;
-    hint.finish(24, &mut out)?;
+    hint.finish(24, &mut out).expect(&rt, "memory");
     assert_eq!(rt; out.as_slice(), HINT.as_slice());
     out.truncate(31);
-    first.add(&row(rt.alloc(), TOMBSTONE)?, &mut out)?;
-    first.finish(47, &mut out)?;
+    first
+        .add(&row(&rt, rt.alloc(), TOMBSTONE), &mut out)
+        .expect(&rt, "memory");
+    first.finish(47, &mut out).expect(&rt, "memory");
     assert_eq!(rt; out.as_slice(), TWO.as_slice());
-    let found = versions_in(rt.alloc(), &out, 47)?;
+}
+
+#[test]
+fn rows_are_read_again(rt: HostRuntime) {
+    let found = versions_in(&rt, rt.alloc(), TWO, 47);
     assert_eq!(rt; found.as_slice(), [PUT, TOMBSTONE].as_slice());
-    Ok(())
+}
+
+// A hint of 200 rows, all of the put.
+fn many_rows(rt: &impl Abort, alloc: Global) -> Vec<u8> {
+    let mut hint = HintOut::new();
+    let mut out = Vec::new(alloc);
+    let row = row(rt, alloc, PUT);
+    for _ in 0..200 {
+        hint.add(&row, &mut out).expect(rt, "memory");
+    }
+    hint.finish(24, &mut out).expect(rt, "memory");
+    out
 }
 
 // More bytes than are checked at once.
 #[test]
-fn a_hint_of_many_rows_is_good(rt: HostRuntime) -> Result<(), Fail> {
-    let mut hint = HintOut::new();
-    let mut out = Vec::new(rt.alloc());
-    let row = row(rt.alloc(), PUT)?;
-    for _ in 0..200 {
-        hint.add(&row, &mut out)?;
-    }
-    hint.finish(24, &mut out)?;
+fn a_hint_of_many_rows_is_good(rt: HostRuntime) {
+    let mut out = many_rows(&rt, rt.alloc());
     let good = Verdict::Good {
         covered: 24,
         rows: 200,
@@ -96,7 +109,6 @@ fn a_hint_of_many_rows_is_good(rt: HostRuntime) -> Result<(), Fail> {
         *first = 1;
     }
     assert!(rt; matches!(judge(&out, 24), Verdict::BadCheck { .. }));
-    Ok(())
 }
 
 const BAD_CHECK: Verdict = Verdict::BadCheck {

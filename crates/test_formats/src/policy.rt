@@ -1,6 +1,5 @@
 use bk_base::{FileId, Row, RowState};
 use bk_policy::{SettingName, Settings, SettingsError, due};
-use std::test::Fail;
 
 // Texts, and the settings that they say.
 const READ: [(&[u8], Settings); 4] = [
@@ -43,12 +42,11 @@ const READ: [(&[u8], Settings); 4] = [
 ];
 
 #[test]
-fn settings_are_read(rt: HostRuntime) -> Result<(), Fail> {
+fn settings_are_read(rt: HostRuntime) {
     for (text, settings) in READ {
         assert_eq!(rt; Settings::read(rt.alloc(), text), Ok(settings));
     }
     assert_eq!(rt; Settings::read(rt.alloc(), b""), Ok(Settings::plain()));
-    Ok(())
 }
 
 // Texts that are refused, and why: the first wrong key by its bytes, whatever stands first in the text.
@@ -104,20 +102,19 @@ const REFUSED: [(&[u8], SettingsError); 12] = [
 ];
 
 #[test]
-fn refusals_name_the_first_cause(rt: HostRuntime) -> Result<(), Fail> {
+fn refusals_name_the_first_cause(rt: HostRuntime) {
     for (text, error) in REFUSED {
         assert_eq!(rt; Settings::read(rt.alloc(), text), Err(error));
     }
-    let blank = vec![in rt.alloc(); b' '; 65_537]?;
-    assert_eq!(rt;
-        Settings::read(rt.alloc(), &blank[..65_536]),
-        Ok(Settings::plain())
-    );
-    assert_eq!(rt;
-        Settings::read(rt.alloc(), &blank),
-        Err(SettingsError::TooLong { len: 65_537 })
-    );
-    Ok(())
+}
+
+#[test]
+fn a_text_is_read_up_to_its_longest(rt: HostRuntime) {
+    let blank = vec![in rt.alloc(); b' '; 65_537].expect(&rt, "memory");
+    let longest = blank.get(..65_536).expect(&rt, "its front");
+    assert_eq!(rt; Settings::read(rt.alloc(), longest), Ok(Settings::plain()));
+    let refused = SettingsError::TooLong { len: 65_537 };
+    assert_eq!(rt; Settings::read(rt.alloc(), &blank), Err(refused));
 }
 
 fn row(total: u64, live: u64, state: RowState) -> Row {

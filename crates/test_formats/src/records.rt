@@ -1,7 +1,9 @@
+ghost use Rattle.std.specs.Prelude.{◌≡◌};
+
 use bk_base::{Body, Key, Moment, Seq, Value, Write};
 use bk_record::{Stop, decode, decode_key, encode};
 use std::alloc::Global;
-use std::test::Fail;
+use std::process::Abort;
 
 // Packed by Python's struct and zlib.
 const PUT: &[u8; 24] =
@@ -10,51 +12,77 @@ const PUT: &[u8; 24] =
 const TOMBSTONE: &[u8; 23] =
     b"\x42\xf6\x5a\x5d\x00\x00\x00\x07\x00\x01\xff\xff\xff\xff\x00\x00\x00\x00\x00\x00\x00\x02a";
 
-#[test]
-fn writes_are_encoded_one_after_the_other(rt: HostRuntime) -> Result<(), Fail> {
-    let key = Key::new(b"a".to_vec(rt.alloc())?)?;
-    let put = Write {
+fn key(rt: &impl Abort, alloc: Global) -> Key {
+    Key::of(alloc, b"a").expect(rt, "memory")
+}
+
+fn put(rt: &impl Abort, alloc: Global) -> Write
+    ensures { result.seq.0 ≡ 1 }
+{
+    let value = b"1".to_vec(alloc).expect(rt, "memory");
+    Write {
         seq: Seq(1),
         moment: Moment(5),
-        key: key.copy()?,
-        body: Body::Put(Value::new(b"1".to_vec(rt.alloc())?)?),
-    };
-    let tombstone = Write {
+        key: key(rt, alloc),
+        body: Body::Put(Value::new(value).expect(rt, "a value")),
+    }
+}
+
+fn tombstone(rt: &impl Abort, alloc: Global) -> Write
+    ensures { result.seq.0 ≡ 2 }
+{
+    Write {
         seq: Seq(2),
         moment: Moment(7),
-        key,
+        key: key(rt, alloc),
         body: Body::Gone,
-    };
-    let mut out = Vec::new(rt.alloc());
-    encode(&put, &mut out)?;
-    assert_eq!(rt; out.as_slice(), PUT.as_slice());
-    encode(&tombstone, &mut out)?;
-    assert_eq!(rt; &out[24..], TOMBSTONE.as_slice());
-    Ok(())
+    }
 }
 
 #[test]
-fn records_are_decoded_whatever_follows(rt: HostRuntime) -> Result<(), Fail> {
-    let mut bytes = PUT.to_vec(rt.alloc())?;
-    bytes.extend_from_slice(TOMBSTONE.as_slice())?;
-    let put = decode(rt.alloc(), &bytes)?;
-    assert_eq!(rt; put.size, 24);
-    assert_eq!(rt; put.crc, 0xaff4_43c2);
-    assert_eq!(rt; put.write.seq, Seq(1));
-    assert_eq!(rt; put.write.moment, Moment(5));
+fn writes_are_encoded_one_after_the_other(rt: HostRuntime) {
+    let mut out = Vec::new(rt.alloc());
+    encode(&put(&rt, rt.alloc()), &mut out).expect(&rt, "memory");
+    assert_eq!(rt; out.as_slice(), PUT.as_slice());
+    encode(&tombstone(&rt, rt.alloc()), &mut out).expect(&rt, "memory");
+    assert_eq!(rt; out.strip_prefix(PUT), Some(TOMBSTONE.as_slice()));
+}
+
+// Both records, the put first.
+fn records(rt: &impl Abort, alloc: Global) -> Vec<u8> {
+    let mut bytes = PUT.to_vec(alloc).expect(rt, "memory");
+    bytes.extend_from_slice(TOMBSTONE).expect(rt, "memory");
+    bytes
+}
+
+#[test]
+fn a_put_is_decoded_whatever_follows(rt: HostRuntime) {
+    let bytes = records(&rt, rt.alloc());
+    let put = decode(rt.alloc(), &bytes).expect(&rt, "a record");
+    assert_eq!(rt; (put.size, put.crc), (24, 0xaff4_43c2));
+    assert_eq!(rt; (put.write.seq, put.write.moment), (Seq(1), Moment(5)));
     assert_eq!(rt; put.write.key.bytes(), b"a".as_slice());
     assert!(rt; matches!(&put.write.body, Body::Put(value) if value.bytes() == b"1".as_slice()));
-    let put = decode_key(rt.alloc(), &bytes)?;
+}
+
+#[test]
+fn the_key_of_a_put_is_decoded(rt: HostRuntime) {
+    let bytes = records(&rt, rt.alloc());
+    let put = decode_key(rt.alloc(), &bytes).expect(&rt, "a record");
     assert_eq!(rt;
         (put.seq, put.moment, put.size, put.gone),
         (Seq(1), Moment(5), 24, false)
     );
     assert_eq!(rt; (put.key.bytes(), put.crc), (b"a".as_slice(), 0xaff4_43c2));
-    let tombstone = decode(rt.alloc(), TOMBSTONE)?;
+}
+
+#[test]
+fn a_tombstone_is_decoded(rt: HostRuntime) {
+    let tombstone = decode(rt.alloc(), TOMBSTONE).expect(&rt, "a record");
     assert_eq!(rt; tombstone.size, 23);
     assert!(rt; matches!(tombstone.write.body, Body::Gone));
-    assert!(rt; decode_key(rt.alloc(), TOMBSTONE)?.gone);
-    Ok(())
+    let key = decode_key(rt.alloc(), TOMBSTONE).expect(&rt, "a record");
+    assert!(rt; key.gone);
 }
 
 // What no record begins, and why. The first field of the last rows is the checksum that the rest has.

@@ -1,8 +1,8 @@
 //! What no clause says: the texts of replies, and that reading and writing succeed.
+use bk_base::{Reply, Seq, Value};
 use bk_wire::{ReplyStop, read_reply, write_reply};
 use std::alloc::Global;
 use std::process::Abort;
-use std::test::Fail;
 
 const REPLIES: [&[u8]; 30] = [
     b"VALUE 1\n1\n",
@@ -70,37 +70,69 @@ fn stops(alloc: Global, bytes: &[u8], stop: ReplyStop) -> bool {
     matches!(read_reply(alloc, bytes), Err(found) if found == stop)
 }
 
-#[test]
-fn each_reply_is_read_and_written_again(rt: HostRuntime) -> Result<(), Fail> {
-    for text in REPLIES {
-        let mut bytes = text.to_vec(rt.alloc())?;
-        bytes.extend_from_slice(b"BYE\n")?;
-        let read = read_reply(rt.alloc(), &bytes).ok().ok_or("no reply")?;
-        let mut written = Vec::new(rt.alloc());
-        write_reply(&read.reply, &mut written)?;
-        assert_eq!(rt; written.as_slice(), text);
-        assert_eq!(rt; read.size, text.len());
-        for cut in 0..text.len() {
-            assert!(rt;
-                stops(rt.alloc(), &text[..cut], ReplyStop::Short),
-                "cut at {cut}"
-            );
-        }
-    }
-    Ok(())
+/// Reads the reply with another behind it, and writes it again.
+fn is_read_and_written(rt: &impl Abort, alloc: Global, text: &[u8]) {
+    let mut bytes = text.to_vec(alloc).expect(rt, "memory");
+    bytes.extend_from_slice(b"BYE\n").expect(rt, "memory");
+    let read = read_reply(alloc, &bytes).expect(rt, "a reply");
+    assert_eq!(rt; read.size, text.len());
+    let mut written = Vec::new(alloc);
+    write_reply(&read.reply, &mut written).expect(rt, "memory");
+    assert_eq!(rt; written.as_slice(), text);
 }
 
 #[test]
-fn others_are_refused_at_the_first_wrong_byte(rt: HostRuntime) -> Result<(), Fail> {
-    for (text, wrong) in REFUSED {
-        for cut in 0..=text.len() {
-            let stop = if cut <= wrong {
-                ReplyStop::Short
-            } else {
-                ReplyStop::Bad
-            };
-            assert!(rt; stops(rt.alloc(), &text[..cut], stop), "cut at {cut}");
-        }
+fn each_reply_is_read_and_written_again(rt: HostRuntime) {
+    for text in REPLIES {
+        is_read_and_written(&rt, rt.alloc(), text);
     }
-    Ok(())
+}
+
+/// Each front of the text is refused: as too short, or as wrong once it has this byte.
+fn fronts_stop(rt: &impl Abort, alloc: Global, text: &[u8], wrong: usize) {
+    for cut in 0..text.len() {
+        let stop = if cut <= wrong {
+            ReplyStop::Short
+        } else {
+            ReplyStop::Bad
+        };
+        assert!(rt; stops(alloc, &text[..cut], stop), "cut at {cut}");
+    }
+}
+
+#[test]
+fn a_reply_that_is_cut_is_short(rt: HostRuntime) {
+    for text in REPLIES {
+        fronts_stop(&rt, rt.alloc(), text, text.len());
+    }
+}
+
+#[test]
+fn others_are_refused_at_the_first_wrong_byte(rt: HostRuntime) {
+    for (text, wrong) in REFUSED {
+        fronts_stop(&rt, rt.alloc(), text, wrong);
+        assert!(rt; stops(rt.alloc(), text, ReplyStop::Bad));
+    }
+}
+
+fn value(rt: &impl Abort, alloc: Global, bytes: &[u8]) -> Reply {
+    let bytes = bytes.to_vec(alloc).expect(rt, "memory");
+    Reply::Value(Value::new(bytes).expect(rt, "a value"))
+}
+
+#[test]
+fn replies_are_written_one_after_the_other(rt: HostRuntime) {
+    let replies = [
+        Reply::Numbered(Seq(1)),
+        value(&rt, rt.alloc(), b"1"),
+        Reply::Absent,
+        value(&rt, rt.alloc(), b""),
+        Reply::Numbered(Seq(9_223_372_036_854_775_807)),
+    ];
+    let mut out = Vec::new(rt.alloc());
+    for reply in &replies {
+        write_reply(reply, &mut out).expect(&rt, "memory");
+    }
+    let text = b"OK 1\nVALUE 1\n1\nNONE\nVALUE 0\n\nOK 9223372036854775807\n";
+    assert_eq!(rt; out.as_slice(), text.as_slice());
 }

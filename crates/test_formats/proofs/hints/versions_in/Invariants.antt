@@ -4,4 +4,4 @@ use Rattle.test_formats.proofs.hints.versions_in.Given as goal
 
 -- rows are left behind those that were read
 abbrev pub invariant-loop : goal.invariant-loop
-invariant-loop l = (covered : ℕ) × (rows : List Hinted) × RowsLeft l.bytes l.reader.at covered rows
+invariant-loop g l = (covered : ℕ) × (rows : List Hinted) × RowsLeft l.bytes l.reader.at covered rows

@@ -1,4 +1,4 @@
-use Rattle.std.proofs.Common.{◌≡◌, refl, subst, sym}
+use Rattle.std.proofs.Common.{refl, subst, sym}
 use Rattle.bk_script.specs.declared.lines.Action.TheVariants.{Big, Put}
 use Rattle.bk_script.specs.declared.printed.Printed.{Printed}
 use Rattle.bk_drill.proofs.drills.Drill.put.Goals as goal

@@ -1,4 +1,3 @@
-use Rattle.std.proofs.Common.{rules}
 use Rattle.bk_drill.proofs.drills.Drill.put_big.Goals as goal
 use Rattle.bk_drill.proofs.Writing.{big_no_memory}
 
