@@ -52,8 +52,8 @@ fn reads(rt: &impl Abort, alloc: Global, script: &[u8], answers: &[u8]) {
     }
 }
 
-/// Scripts, and what is answered to them.
-const SCRIPTS: [(&[u8], &[u8]); 70] = [
+/// Scripts of settings, times and faults, and what is answered to them.
+const SETTINGS: [(&[u8], &[u8]); 29] = [
     (b"", b""),
     (b"max 4096\nttl 0\n", b"Max(4096);Ttl(0);"),
     (
@@ -92,6 +92,10 @@ const SCRIPTS: [(&[u8], &[u8]); 70] = [
     (b"fuse 0 0\n", b"Fuse { calls: 0, effect: 0 };"),
     (b"fuse 18446744073709551616 0\n", b"bad 0"),
     (b"fuse 1 0 2\n", b"bad 0"),
+];
+
+/// The same for what an actor does.
+const OF_ACTORS: [(&[u8], &[u8]); 31] = [
     (
         b"a put k v\nz put ! ~\n",
         b"By(Actor(1), Put { key: Key { bytes: [107] }, value: Value { bytes: [118] } });\
@@ -139,6 +143,10 @@ const SCRIPTS: [(&[u8], &[u8]); 70] = [
     (b"a \n", b"bad 0"),
     (b" a read\n", b"bad 0"),
     (b"a  read\n", b"bad 0"),
+];
+
+/// The same for stops, and for lines that are no lines of a script.
+const OTHERS: [(&[u8], &[u8]); 10] = [
     (
         b"stop 0\nstop all\n",
         b"Stop { keep: Some(0), flips: Flips { offsets: [] } };Stop { keep: None, flips: Flips { offsets: [] } };",
@@ -158,8 +166,22 @@ const SCRIPTS: [(&[u8], &[u8]); 70] = [
 ];
 
 #[test]
-fn reads_lines_however_they_are_cut(rt: HostRuntime) {
-    for (script, answers) in SCRIPTS {
+fn reads_settings_however_they_are_cut(rt: HostRuntime) {
+    for (script, answers) in SETTINGS {
+        reads(&rt, rt.alloc(), script, answers);
+    }
+}
+
+#[test]
+fn reads_actors_however_they_are_cut(rt: HostRuntime) {
+    for (script, answers) in OF_ACTORS {
+        reads(&rt, rt.alloc(), script, answers);
+    }
+}
+
+#[test]
+fn reads_other_lines_however_they_are_cut(rt: HostRuntime) {
+    for (script, answers) in OTHERS {
         reads(&rt, rt.alloc(), script, answers);
     }
 }
