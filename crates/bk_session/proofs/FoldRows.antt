@@ -185,7 +185,7 @@ module _ (disk sink : Bool) (slot : ℕ) (v u : Shown) (key : List ℕ) (l : Len
     dropped = (record { key = key; value = drop l.value_at l.left }) ∷ [];
     quiet = 0;
     listed = listed_with b rows steps (drop l.value_at l.left) (λ tell. refl) listed;
-      may = may;
+    may = may;
     closes = closes;
     counts = counts;
     cause = cause;
