@@ -1,5 +1,5 @@
 //! The worked rows of `run`, over a disk and streams in memory.
-ghost use Rattle.std.specs.Prelude.{◌≤◌, IfOk};
+ghost use Rattle.std.specs.Prelude.{◌≤◌};
 ghost use Rattle.bk_load.specs.Tidying.{NoneLent};
 ghost use Rattle.bk_memdisk.specs.Disk.{told_by};
 
@@ -8,12 +8,13 @@ use bk_base::{Kind, Moment, Name, Status};
 use bk_load::synced_lends_nothing;
 use bk_memdisk::{Choice, ListClock, MemDisk, MemSink, MemSource};
 use bk_progress::Silent;
-use std::alloc::{AllocError, Global};
+use std::alloc::Global;
 use std::process::Abort;
-use std::test::Fail;
 
 /// What a run is given and what it is to write, its status, and the length of its data file, 0 for none.
-const ROWS: [(&str, &str, Status, usize); 10] = [
+type Row = (&'static str, &'static str, Status, usize);
+
+const ROWS: &[Row] = &[
     ("", "", Status::Done, 0),
     (
         "PUT 1 1\na1\nGET 1\na\n",
@@ -60,47 +61,65 @@ struct Left {
 }
 
 impl Left {
-    /// The status, and the bytes that were written, as a text.
-    fn is(&self, output: &[u8], status: Status) -> bool {
-        self.status == status && self.output.as_slice() == output
+    // The bytes of the data file, none where there is no file.
+    fn data(&self) -> &[u8] {
+        self.disk.bytes(DATA_FILE).unwrap_or(&[])
+    }
+
+    // The run wrote so and ended so.
+    fn is(self, rt: &impl Abort, output: &[u8], status: Status) {
+        assert_eq!(rt; (self.output.as_slice(), self.status), (output, status));
     }
 }
 
-/// These words as a program has them.
-fn words_of(alloc: Global, texts: &[&str]) -> Result<Vec<String>, AllocError> {
+const PIPE: &[&str] = &["pipe", "d"];
+
+const CHECK: &[&str] = &["check", "d"];
+
+const GET: &[u8] = b"GET 1\na\n";
+
+// These words as a program has them.
+fn words_of(rt: &impl Abort, alloc: Global, texts: &[&str]) -> Vec<String> {
     let mut words = Vec::new(alloc);
     for text in texts {
-        words.push(String::from_str(alloc, text)?)?;
+        let word = String::from_str(alloc, text).expect(rt, "memory");
+        words.push(word).expect(rt, "memory");
     }
-    Ok(words)
+    words
 }
 
-/// A clock with 5 as each moment.
-fn at_five(alloc: Global) -> Result<ListClock, AllocError> {
+// A clock with 5 as each moment.
+fn at_five(rt: &impl Abort, alloc: Global) -> ListClock {
     let mut moments = Vec::new(alloc);
-    moments.push(Moment(5))?;
-    Ok(ListClock::new(moments))
+    moments.push(Moment(5)).expect(rt, "memory");
+    ListClock::new(moments)
 }
 
-/// Runs `pipe d` over this disk.
-fn pipe(alloc: Global, disk: MemDisk, source: MemSource, sink: MemSink) -> Result<Left, AllocError>
-    requires { NoneLent (told_by disk).fronts }
+// A source that gives so many of these bytes at a read at most.
+fn source_of(rt: &impl Abort, alloc: Global, input: &[u8], most: usize) -> MemSource
+    requires { 1 ≤ most }
 {
-    run_of(alloc, &["pipe", "d"], disk, source, sink)
+    MemSource::new(input.to_vec(alloc).expect(rt, "memory"), None, most)
 }
 
-/// Runs these words over this disk.
+// A sink that fails at this write.
+fn sink_of(rt: &impl Abort, alloc: Global, fails: Option<u64>) -> MemSink {
+    MemSink::new(alloc, 1_000, fails).expect(rt, "memory")
+}
+
+// Runs these words over this disk.
 fn run_of(
+    rt: &impl Abort,
     alloc: Global,
     texts: &[&str],
     disk: MemDisk,
     mut source: MemSource,
     mut sink: MemSink,
-) -> Result<Left, AllocError>
+) -> Left
     requires { NoneLent (told_by disk).fronts }
 {
-    let words = words_of(alloc, texts)?;
-    let mut clock = at_five(alloc)?;
+    let words = words_of(rt, alloc, texts);
+    let mut clock = at_five(rt, alloc);
     let Ended { disk, status } = run(
         alloc,
         &words,
@@ -110,84 +129,133 @@ fn run_of(
         &mut clock,
         &mut Silent,
     );
-    let output = sink.bytes().to_vec(alloc)?;
-    Ok(Left {
+    let output = sink.bytes().to_vec(alloc).expect(rt, "memory");
+    Left {
         status,
         output,
         disk,
-    })
-}
-
-/// The same, with a source that gives so many bytes at a read at most, and a sink that fails at this write.
-fn piped(
-    alloc: Global,
-    disk: MemDisk,
-    input: &[u8],
-    most: usize,
-    sink_fails: Option<u64>,
-) -> Result<Left, AllocError>
-    requires some { 1 ≤ most }
-    requires none_lent { NoneLent (told_by disk).fronts }
-{
-    let source = MemSource::new(input.to_vec(alloc)?, None, most);
-    match MemSink::new(alloc, 1_000, sink_fails) {
-        Ok(sink) => pipe(alloc, disk, source, sink),
-        Err(_) => Err(AllocError),
     }
 }
 
-/// The same over an empty disk, with a sink that doesn't fail.
-fn answered(alloc: Global, input: &[u8], most: usize) -> Result<Left, AllocError>
+// Runs `pipe d` over this disk, with this input.
+fn piped(rt: &impl Abort, alloc: Global, disk: MemDisk, input: &[u8]) -> Left
+    requires { NoneLent (told_by disk).fronts }
+{
+    let source = source_of(rt, alloc, input, 1_000);
+    let sink = sink_of(rt, alloc, None);
+    run_of(rt, alloc, PIPE, disk, source, sink)
+}
+
+// The same over an empty disk, with so many bytes at a read at most.
+fn answered(rt: &impl Abort, alloc: Global, input: &[u8], most: usize) -> Left
     requires { 1 ≤ most }
 {
-    piped(alloc, MemDisk::new(alloc), input, most, None)
+    let source = source_of(rt, alloc, input, most);
+    let sink = sink_of(rt, alloc, None);
+    run_of(rt, alloc, PIPE, MemDisk::new(alloc), source, sink)
+}
+
+// Runs these words over this disk, with no input and a sink that fails at this write.
+fn commanded(
+    rt: &impl Abort,
+    alloc: Global,
+    texts: &[&str],
+    disk: MemDisk,
+    sink_fails: Option<u64>,
+) -> Left
+    requires { NoneLent (told_by disk).fronts }
+{
+    let source = source_of(rt, alloc, b"", 1);
+    let sink = sink_of(rt, alloc, sink_fails);
+    run_of(rt, alloc, texts, disk, source, sink)
+}
+
+// An empty disk whose nth call fails.
+fn failing_disk(rt: &impl Abort, alloc: Global, nth: u64) -> MemDisk
+    ensures { NoneLent (told_by result).fronts }
+{
+    let mut disk = MemDisk::new(alloc);
+    disk.fail(nth, 0).expect(rt, "memory");
+    disk
+}
+
+// A disk with one file.
+fn with_file(rt: &impl Abort, alloc: Global, name: Name, bytes: &[u8]) -> MemDisk
+    ensures { NoneLent (told_by result).fronts }
+{
+    let mut disk = MemDisk::new(alloc);
+    disk.place(name, bytes).expect(rt, "memory");
+    disk
+}
+
+// A run of this row, of which a read takes 7 bytes at most.
+fn shows(rt: &impl Abort, alloc: Global, row: Row) {
+    let (input, output, status, len) = row;
+    let left = answered(rt, alloc, input.as_bytes(), 7);
+    assert!(rt; left.data().len() == len, "{input}");
+    left.is(rt, output.as_bytes(), status);
 }
 
 #[test]
-fn rows(rt: HostRuntime) -> Result<(), Fail> {
-    for (input, output, status, len) in ROWS {
-        let left = answered(rt.alloc(), input.as_bytes(), 7)?;
-        assert!(rt; left.is(output.as_bytes(), status), "{input}");
-        let bytes = left.disk.bytes(DATA_FILE).unwrap_or(&[]);
-        assert_eq!(rt; bytes.len(), len);
+fn rows(rt: HostRuntime) {
+    for row in ROWS {
+        shows(&rt, rt.alloc(), *row);
     }
-    Ok(())
 }
 
 /// The record of `a` with the value `1` at moment 5: its checksum is zlib's.
-const RECORD: [u8; 24] = [
+const RECORD: &[u8] = &[
     0xaf, 0xf4, 0x43, 0xc2, 0, 0, 0, 5, 0, 1, 0, 0, 0, 1, 0, 0, 0, 0, 0, 0, 0, 1, b'a', b'1',
 ];
 
-#[test]
-fn data_file(rt: HostRuntime) -> Result<(), Fail> {
-    let left = answered(rt.alloc(), b"PUT 1 1\na1\n", 1)?;
-    let bytes = left.disk.bytes(DATA_FILE).ok_or("no file")?;
-    assert_eq!(rt; bytes, RECORD.as_slice());
-    Ok(())
-}
+/// The record of `b` with the value `2`, behind that of `a`.
+const SECOND: &[u8] = &[
+    0x1f, 0x96, 0xff, 0xe2, 0, 0, 0, 5, 0, 1, 0, 0, 0, 1, 0, 0, 0, 0, 0, 0, 0, 2, b'b', b'2',
+];
 
-/// Whether a put of this key's length and this value's length is answered.
-fn takes_large_put(alloc: Global, header: &str, len: usize) -> Result<bool, AllocError> {
-    let mut text = header.as_bytes().to_vec(alloc)?;
-    let body: Vec<u8> = vec![in alloc; b'x'; len]?;
-    text.extend_from_slice(body.as_slice())?;
-    text.push(b'\n')?;
-    let left = answered(alloc, text.as_slice(), 65_536)?;
-    Ok(left.is(b"OK 1\n", Status::Done))
+// A disk whose data file holds these bytes, one behind the other.
+fn with_data(rt: &impl Abort, alloc: Global, first: &[u8], second: &[u8]) -> MemDisk
+    ensures { NoneLent (told_by result).fronts }
+{
+    let mut bytes = first.to_vec(alloc).expect(rt, "memory");
+    bytes.extend_from_slice(second).expect(rt, "memory");
+    with_file(rt, alloc, DATA_FILE, &bytes)
 }
 
 #[test]
-fn largest(rt: HostRuntime) -> Result<(), Fail> {
-    assert!(rt; takes_large_put(rt.alloc(), "PUT 65535 0\n", 65_535)?);
-    assert!(rt; takes_large_put(rt.alloc(), "PUT 1 16777216\n", 16_777_217)?);
-    Ok(())
+fn data_file(rt: HostRuntime) {
+    let left = answered(&rt, rt.alloc(), b"PUT 1 1\na1\n", 1);
+    assert_eq!(rt; left.data(), RECORD);
 }
 
-const GET: &[u8] = b"GET 1\na\n";
+// A put of this header, and a key and a value of so many bytes together.
+fn large_put(rt: &impl Abort, alloc: Global, header: &str, len: usize) -> Vec<u8> {
+    let mut text = header.as_bytes().to_vec(alloc).expect(rt, "memory");
+    let body: Vec<u8> = vec![in alloc; b'x'; len].expect(rt, "memory");
+    text.extend_from_slice(&body).expect(rt, "memory");
+    text.push(b'\n').expect(rt, "memory");
+    text
+}
+
+// A put of so many bytes is answered.
+fn takes_large_put(rt: &impl Abort, alloc: Global, header: &str, len: usize) {
+    let text = large_put(rt, alloc, header, len);
+    let left = answered(rt, alloc, &text, 65_536);
+    left.is(rt, b"OK 1\n", Status::Done);
+}
+
+#[test]
+fn largest_key(rt: HostRuntime) {
+    takes_large_put(&rt, rt.alloc(), "PUT 65535 0\n", 65_535);
+}
+
+#[test]
+fn largest_value(rt: HostRuntime) {
+    takes_large_put(&rt, rt.alloc(), "PUT 1 16777216\n", 16_777_217);
+}
 
 /// Words that are no command's.
-const NO_WORDS: [&[&str]; 13] = [
+const NO_WORDS: &[&[&str]] = &[
     &["pipe"],
     &["check", ""],
     &["list", "d", "d"],
@@ -203,141 +271,109 @@ const NO_WORDS: [&[&str]; 13] = [
     &[],
 ];
 
-#[test]
-fn words_that_are_refused(rt: HostRuntime) -> Result<(), Fail> {
-    let alloc = rt.alloc();
-    for texts in NO_WORDS {
-        let source = MemSource::new(GET.to_vec(alloc)?, None, 1_000);
-        let sink = MemSink::new(alloc, 1_000, None).map_err(|_| AllocError)?;
-        let left = run_of(alloc, texts, MemDisk::new(alloc), source, sink)?;
-        assert!(rt; left.is(b"", Status::Words));
-    }
-    Ok(())
+// These words are refused, and nothing is written.
+fn refuses(rt: &impl Abort, alloc: Global, texts: &[&str]) {
+    let source = source_of(rt, alloc, GET, 1_000);
+    let sink = sink_of(rt, alloc, None);
+    let left = run_of(rt, alloc, texts, MemDisk::new(alloc), source, sink);
+    left.is(rt, b"", Status::Words);
 }
 
 #[test]
-fn failing_view(rt: HostRuntime) -> Result<(), Fail> {
-    let alloc = rt.alloc();
-    let mut disk = MemDisk::new(alloc);
-    assert!(rt; disk.fail_view(1).is_ok());
-    let left = piped(
-        alloc,
-        disk,
-        b"PUT 1 1\na1\nGET 1\na\nGET 1\na\n",
-        1_000,
-        None,
-    )?;
-    assert!(rt; left.is(b"OK 1\nREAD\nVALUE 1\n1\n", Status::Done));
-    Ok(())
+fn words_that_are_refused(rt: HostRuntime) {
+    for texts in NO_WORDS {
+        refuses(&rt, rt.alloc(), *texts);
+    }
+}
+
+#[test]
+fn failing_view(rt: HostRuntime) {
+    let mut disk = MemDisk::new(rt.alloc());
+    disk.fail_view(1).expect(&rt, "memory");
+    let left = piped(&rt, rt.alloc(), disk, b"PUT 1 1\na1\nGET 1\na\nGET 1\na\n");
+    left.is(&rt, b"OK 1\nREAD\nVALUE 1\n1\n", Status::Done);
 }
 
 /// The last sync is the call of the disk with this number, behind those of the opening and of a put.
 const LAST_SYNC: u64 = 7;
 
 #[test]
-fn failing_last_sync(rt: HostRuntime) -> Result<(), Fail> {
-    let alloc = rt.alloc();
-    let mut disk = MemDisk::new(alloc);
-    assert!(rt; disk.fail(LAST_SYNC, 0).is_ok());
-    let left = piped(alloc, disk, b"PUT 1 1\na1\n", 1_000, None)?;
-    assert!(rt; left.is(b"OK 1\n", Status::Disk));
-    Ok(())
+fn failing_last_sync(rt: HostRuntime) {
+    let disk = failing_disk(&rt, rt.alloc(), LAST_SYNC);
+    let left = piped(&rt, rt.alloc(), disk, b"PUT 1 1\na1\n");
+    left.is(&rt, b"OK 1\n", Status::Disk);
 }
 
 #[test]
-fn failing_source(rt: HostRuntime) -> Result<(), Fail> {
-    let alloc = rt.alloc();
-    let source = MemSource::new(GET.to_vec(alloc)?, Some(2), 1_000);
-    let sink = MemSink::new(alloc, 1_000, None).map_err(|_| AllocError)?;
-    let left = pipe(alloc, MemDisk::new(alloc), source, sink)?;
-    assert!(rt; left.is(b"NONE\n", Status::Source));
-    Ok(())
+fn failing_source(rt: HostRuntime) {
+    let bytes = GET.to_vec(rt.alloc()).expect(&rt, "memory");
+    let source = MemSource::new(bytes, Some(2), 1_000);
+    let sink = sink_of(&rt, rt.alloc(), None);
+    let left = run_of(
+        &rt,
+        rt.alloc(),
+        PIPE,
+        MemDisk::new(rt.alloc()),
+        source,
+        sink,
+    );
+    left.is(&rt, b"NONE\n", Status::Source);
 }
 
 #[test]
-fn failing_sink(rt: HostRuntime) -> Result<(), Fail> {
-    let alloc = rt.alloc();
-    let left = piped(alloc, MemDisk::new(alloc), GET, 1_000, Some(1))?;
-    assert!(rt; left.is(b"", Status::Sink));
-    Ok(())
+fn failing_sink(rt: HostRuntime) {
+    let source = source_of(&rt, rt.alloc(), GET, 1_000);
+    let sink = sink_of(&rt, rt.alloc(), Some(1));
+    let left = run_of(
+        &rt,
+        rt.alloc(),
+        PIPE,
+        MemDisk::new(rt.alloc()),
+        source,
+        sink,
+    );
+    left.is(&rt, b"", Status::Sink);
 }
 
 #[test]
-fn failing_listing(rt: HostRuntime) -> Result<(), Fail> {
-    let alloc = rt.alloc();
-    let mut disk = MemDisk::new(alloc);
-    assert!(rt; disk.fail(1, 0).is_ok());
-    let left = piped(alloc, disk, GET, 1_000, None)?;
-    assert!(rt; left.is(b"", Status::Disk));
-    Ok(())
-}
-
-/// A disk with one file.
-fn with_file(alloc: Global, name: Name, bytes: &[u8]) -> Result<MemDisk, AllocError>
-    ensures { IfOk result (λ disk. NoneLent (told_by disk).fronts) }
-{
-    let mut disk = MemDisk::new(alloc);
-    match disk.place(name, bytes) {
-        Ok(()) => Ok(disk),
-        Err(_) => Err(AllocError),
-    }
-}
-
-/// The record of `b` with the value `2`, behind that of `a`.
-const SECOND: [u8; 24] = [
-    0x1f, 0x96, 0xff, 0xe2, 0, 0, 0, 5, 0, 1, 0, 0, 0, 1, 0, 0, 0, 0, 0, 0, 0, 2, b'b', b'2',
-];
-
-#[test]
-fn records_that_were_there(rt: HostRuntime) -> Result<(), Fail> {
-    let alloc = rt.alloc();
-    let mut bytes = RECORD.to_vec(alloc)?;
-    bytes.extend_from_slice(&SECOND)?;
-    let disk = with_file(alloc, DATA_FILE, &bytes)?;
-    let left = piped(
-        alloc,
-        disk,
-        b"GET 1\na\nGET 1\nb\nPUT 1 1\na3\n",
-        1_000,
-        None,
-    )?;
-    assert!(rt; left.is(b"VALUE 1\n1\nVALUE 1\n2\nOK 3\n", Status::Done));
-    Ok(())
+fn failing_listing(rt: HostRuntime) {
+    let left = piped(&rt, rt.alloc(), failing_disk(&rt, rt.alloc(), 1), GET);
+    left.is(&rt, b"", Status::Disk);
 }
 
 #[test]
-fn failing_recovery(rt: HostRuntime) -> Result<(), Fail> {
-    let alloc = rt.alloc();
-    let mut disk = with_file(alloc, DATA_FILE, &RECORD)?;
-    assert!(rt; disk.fail_view(1).is_ok());
-    let left = piped(alloc, disk, GET, 1_000, None)?;
-    assert!(rt; left.is(b"", Status::Disk));
-    Ok(())
+fn records_that_were_there(rt: HostRuntime) {
+    let disk = with_data(&rt, rt.alloc(), RECORD, SECOND);
+    let left = piped(&rt, rt.alloc(), disk, b"GET 1\na\nGET 1\nb\nPUT 1 1\na3\n");
+    left.is(&rt, b"VALUE 1\n1\nVALUE 1\n2\nOK 3\n", Status::Done);
 }
 
 #[test]
-fn bad_settings(rt: HostRuntime) -> Result<(), Fail> {
+fn failing_recovery(rt: HostRuntime) {
+    let mut disk = with_file(&rt, rt.alloc(), DATA_FILE, RECORD);
+    disk.fail_view(1).expect(&rt, "memory");
+    let left = piped(&rt, rt.alloc(), disk, GET);
+    left.is(&rt, b"", Status::Disk);
+}
+
+#[test]
+fn bad_settings(rt: HostRuntime) {
     let name = Name {
         id: 0,
         kind: Kind::Settings,
     };
-    let disk = with_file(rt.alloc(), name, b"max_file = 100")?;
-    let left = piped(rt.alloc(), disk, GET, 1_000, None)?;
-    assert!(rt; left.is(b"", Status::Settings));
-    Ok(())
+    let disk = with_file(&rt, rt.alloc(), name, b"max_file = 100");
+    let left = piped(&rt, rt.alloc(), disk, GET);
+    left.is(&rt, b"", Status::Settings);
 }
 
-/// What a run of two puts leaves whose last sync fails.
-fn two_puts(alloc: Global) -> Result<MemDisk, AllocError> {
-    let input = b"PUT 1 1\na1\nPUT 1 1\nb2\n".to_vec(alloc)?;
-    let source = MemSource::new(input, None, 1_000);
-    let sink = MemSink::new(alloc, 1_000, None).map_err(|_| AllocError)?;
-    let mut disk = MemDisk::new(alloc);
-    disk.fail(LAST_SYNC + 1, 0).map_err(|_| AllocError)?;
-    Ok(pipe(alloc, disk, source, sink)?.disk)
+// What a run of two puts leaves whose last sync fails.
+fn two_puts(rt: &impl Abort, alloc: Global) -> MemDisk {
+    let disk = failing_disk(rt, alloc, LAST_SYNC + 1);
+    piped(rt, alloc, disk, b"PUT 1 1\na1\nPUT 1 1\nb2\n").disk
 }
 
-/// What a crash leaves of the disk: of the last record some bytes.
+// What a crash leaves of the disk: of the last record some bytes.
 fn crashed(rt: &impl Abort, alloc: Global, disk: MemDisk) -> MemDisk
     ensures { NoneLent (told_by result).fronts }
 {
@@ -350,113 +386,66 @@ fn crashed(rt: &impl Abort, alloc: Global, disk: MemDisk) -> MemDisk
 }
 
 #[test]
-fn a_run_after_a_crash(rt: HostRuntime) -> Result<(), Fail> {
-    let disk = crashed(&rt, rt.alloc(), two_puts(rt.alloc())?);
-    let left = piped(rt.alloc(), disk, b"GET 1\na\nGET 1\nb\n", 1_000, None)?;
-    assert!(rt; left.is(b"VALUE 1\n1\nNONE\n", Status::Done));
-    Ok(())
-}
-
-/// What these words bring over this disk, with no input and a sink that fails at this write.
-fn commanded(
-    alloc: Global,
-    texts: &[&str],
-    disk: MemDisk,
-    sink_fails: Option<u64>,
-) -> Result<Left, AllocError>
-    requires { NoneLent (told_by disk).fronts }
-{
-    let source = MemSource::new(Vec::new(alloc), None, 1);
-    match MemSink::new(alloc, 1_000, sink_fails) {
-        Ok(sink) => run_of(alloc, texts, disk, source, sink),
-        Err(_) => Err(AllocError),
-    }
+fn a_run_after_a_crash(rt: HostRuntime) {
+    let disk = crashed(&rt, rt.alloc(), two_puts(&rt, rt.alloc()));
+    let left = piped(&rt, rt.alloc(), disk, b"GET 1\na\nGET 1\nb\n");
+    left.is(&rt, b"VALUE 1\n1\nNONE\n", Status::Done);
 }
 
 #[test]
-fn a_check_of_an_empty_directory(rt: HostRuntime) -> Result<(), Fail> {
-    let left = commanded(rt.alloc(), &["check", "d"], MemDisk::new(rt.alloc()), None)?;
-    assert!(rt; left.is(b"CHECKED 0 0\n", Status::Done));
-    Ok(())
+fn a_check_of_an_empty_directory(rt: HostRuntime) {
+    let left = commanded(&rt, rt.alloc(), CHECK, MemDisk::new(rt.alloc()), None);
+    left.is(&rt, b"CHECKED 0 0\n", Status::Done);
 }
 
 #[test]
-fn a_check_of_a_torn_file(rt: HostRuntime) -> Result<(), Fail> {
-    let mut bytes = RECORD.to_vec(rt.alloc())?;
-    bytes.extend_from_slice(&[0; 48])?;
-    let disk = with_file(rt.alloc(), DATA_FILE, &bytes)?;
-    let left = commanded(rt.alloc(), &["check", "d"], disk, None)?;
-    assert!(rt;
-        left.is(
-            b"FILE 1 72 24 24\nTORN 1 24 48\nCHECKED 1 1\n",
-            Status::Done
-        )
-    );
-    Ok(())
+fn a_check_of_a_torn_file(rt: HostRuntime) {
+    let disk = with_data(&rt, rt.alloc(), RECORD, &[0; 48]);
+    let left = commanded(&rt, rt.alloc(), CHECK, disk, None);
+    let said = b"FILE 1 72 24 24\nTORN 1 24 48\nCHECKED 1 1\n";
+    left.is(&rt, said, Status::Done);
 }
 
 #[test]
-fn a_check_whose_sink_fails(rt: HostRuntime) -> Result<(), Fail> {
-    let left = commanded(
-        rt.alloc(),
-        &["check", "d"],
-        MemDisk::new(rt.alloc()),
-        Some(1),
-    )?;
-    assert!(rt; left.is(b"", Status::Sink));
-    Ok(())
+fn a_check_whose_sink_fails(rt: HostRuntime) {
+    let left = commanded(&rt, rt.alloc(), CHECK, MemDisk::new(rt.alloc()), Some(1));
+    left.is(&rt, b"", Status::Sink);
 }
 
 #[test]
-fn a_check_whose_disk_fails(rt: HostRuntime) -> Result<(), Fail> {
-    let mut disk = MemDisk::new(rt.alloc());
-    assert!(rt; disk.fail(2, 0).is_ok());
-    let left = commanded(rt.alloc(), &["check", "d"], disk, None)?;
-    assert!(rt; left.is(b"", Status::Disk));
-    Ok(())
+fn a_check_whose_disk_fails(rt: HostRuntime) {
+    let disk = failing_disk(&rt, rt.alloc(), 2);
+    let left = commanded(&rt, rt.alloc(), CHECK, disk, None);
+    left.is(&rt, b"", Status::Disk);
 }
 
 #[test]
-fn a_fill(rt: HostRuntime) -> Result<(), Fail> {
-    let left = commanded(
-        rt.alloc(),
-        &["fill", "d", "3"],
-        MemDisk::new(rt.alloc()),
-        None,
-    )?;
-    assert!(rt; left.is(b"FILLED 3 3 75\n", Status::Done));
-    Ok(())
-}
-
-#[test]
-fn a_fill_of_no_pairs(rt: HostRuntime) -> Result<(), Fail> {
-    let left = commanded(
-        rt.alloc(),
-        &["fill", "d", "0"],
-        MemDisk::new(rt.alloc()),
-        None,
-    )?;
-    assert!(rt; left.is(b"FILLED 0 0 0\n", Status::Done));
-    Ok(())
-}
-
-#[test]
-fn a_list(rt: HostRuntime) -> Result<(), Fail> {
-    let mut bytes = SECOND.to_vec(rt.alloc())?;
-    bytes.extend_from_slice(&RECORD)?;
-    let disk = with_file(rt.alloc(), DATA_FILE, &bytes)?;
-    let left = commanded(rt.alloc(), &["list", "d"], disk, None)?;
-    assert!(rt; left.is(b"PAIR 1 1\na1\nPAIR 1 1\nb2\nEND 2\n", Status::Done));
-    Ok(())
-}
-
-#[test]
-fn a_drill(rt: HostRuntime) -> Result<(), Fail> {
-    let script = b"a put x 1\nstop all\na get x\na read\n".to_vec(rt.alloc())?;
-    let source = MemSource::new(script, None, 7);
-    let sink = MemSink::new(rt.alloc(), 1_000, None).expect(&rt, "memory");
+fn a_fill(rt: HostRuntime) {
     let disk = MemDisk::new(rt.alloc());
-    let left = run_of(rt.alloc(), &["drill"], disk, source, sink)?;
-    assert!(rt; left.is(b"OK 1\nREOPENED 1 1 0\nLOAN\nVALUE 1\n", Status::Done));
-    Ok(())
+    let left = commanded(&rt, rt.alloc(), &["fill", "d", "3"], disk, None);
+    left.is(&rt, b"FILLED 3 3 75\n", Status::Done);
+}
+
+#[test]
+fn a_fill_of_no_pairs(rt: HostRuntime) {
+    let disk = MemDisk::new(rt.alloc());
+    let left = commanded(&rt, rt.alloc(), &["fill", "d", "0"], disk, None);
+    left.is(&rt, b"FILLED 0 0 0\n", Status::Done);
+}
+
+#[test]
+fn a_list(rt: HostRuntime) {
+    let disk = with_data(&rt, rt.alloc(), SECOND, RECORD);
+    let left = commanded(&rt, rt.alloc(), &["list", "d"], disk, None);
+    left.is(&rt, b"PAIR 1 1\na1\nPAIR 1 1\nb2\nEND 2\n", Status::Done);
+}
+
+#[test]
+fn a_drill(rt: HostRuntime) {
+    let script = b"a put x 1\nstop all\na get x\na read\n";
+    let source = source_of(&rt, rt.alloc(), script, 7);
+    let sink = sink_of(&rt, rt.alloc(), None);
+    let disk = MemDisk::new(rt.alloc());
+    let left = run_of(&rt, rt.alloc(), &["drill"], disk, source, sink);
+    left.is(&rt, b"OK 1\nREOPENED 1 1 0\nLOAN\nVALUE 1\n", Status::Done);
 }
