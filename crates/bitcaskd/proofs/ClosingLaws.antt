@@ -7,7 +7,7 @@ use Rattle.bk_base.specs.declared.histories.Opening.{Opening}
 use Rattle.bk_base.specs.declared.histories.Step.{Step}
 use Rattle.bk_base.specs.declared.numbers.Seq.{Seq}
 use Rattle.bk_base.specs.declared.statuses.SessionEnd.{SessionEnd}
-use Rattle.bk_base.specs.declared.statuses.SessionEnd.TheVariants.{Quit, End, Syntax as syntax_end, Source as source_end, Sink as sink_end, Long as long_end, Memory as memory_end}
+use Rattle.bk_base.specs.declared.statuses.SessionEnd.TheVariants.{Quit, End, Syntax as syntax_end, Source as source_end, Sink as sink_end, Long as long_end, Memory as memory_end, Disk as disk_end}
 use Rattle.bk_base.specs.declared.statuses.Status.{Status}
 use Rattle.bk_base.specs.declared.statuses.Status.TheVariants.{Disk}
 use Rattle.bk_base.specs.declared.writes.Write.{Write}
@@ -167,17 +167,18 @@ last_step tells known v u o h tried end status (inr (is, rose, each)) sub f =
 
 -- ---- the status
 
-never_disk : (end : SessionEnd) → status_of end ≡ Disk → ⊥
-never_disk Quit is = absurd (cc is)
-never_disk End is = absurd (cc is)
-never_disk (syntax_end offset) is = absurd (cc is)
-never_disk source_end is = absurd (cc is)
-never_disk sink_end is = absurd (cc is)
-never_disk long_end is = absurd (cc is)
-never_disk memory_end is = absurd (cc is)
+only_disk : (end : SessionEnd) → status_of end ≡ Disk → end ≡ disk_end
+only_disk Quit is = absurd (cc is)
+only_disk End is = absurd (cc is)
+only_disk (syntax_end offset) is = absurd (cc is)
+only_disk source_end is = absurd (cc is)
+only_disk sink_end is = absurd (cc is)
+only_disk long_end is = absurd (cc is)
+only_disk memory_end is = absurd (cc is)
+only_disk disk_end is = refl
 
--- only the sync makes a session end by the disk
-pub sync_rose : (tells : Bool) (end : SessionEnd) (status : Status) (v u : Shown) → ClosesBy (status_of end) status tells v u
-    → status ≡ Disk → Rose v.files.faults u.files.faults
-sync_rose tells end status v u (inl (is, each)) disk = absurd (never_disk end (sym is ∙ disk))
-sync_rose tells end status v u (inr (is, rose, each)) disk = rose
+-- where the session didn't end by the disk, only the sync makes the run end so
+pub sync_rose : (tells : Bool) (end : SessionEnd) (status : Status) (v u : Shown) → (end ≡ disk_end → ⊥)
+    → ClosesBy (status_of end) status tells v u → status ≡ Disk → Rose v.files.faults u.files.faults
+sync_rose tells end status v u never (inl (is, each)) disk = absurd (never (only_disk end (sym is ∙ disk)))
+sync_rose tells end status v u never (inr (is, rose, each)) disk = rose

@@ -13,7 +13,7 @@ use Rattle.bk_store.specs.Shown.{Shown}
 use Rattle.bitcaskd.specs.Commands.{MayEnd}
 use Rattle.bitcaskd.specs.Filling.{IsFillRun, of_fill}
 use Rattle.bitcaskd.specs.Opening.{Opens}
-use Rattle.bitcaskd.specs.Run.{Outside, Telling, seen_in}
+use Rattle.bitcaskd.specs.Run.{Outside, Telling}
 use Rattle.bitcaskd.specs.declared.command.Command.TheVariants.{Open}
 use Rattle.bitcaskd.specs.declared.command.Work.TheVariants.{Fill}
 use Rattle.bitcaskd.proofs.RunLaws.{follows_with, opening_with, with_disk}
@@ -24,13 +24,13 @@ module _ (tells : Telling) (count : ℕ) (old new : Outside) (v u : Shown) (end 
     (sides_of v old.written old.moments) (sides_of u new.written new.moments) end)
     (past : IsTrue tells.disk → KeepsPast v.files.told u.files.told)
     (whole_same : new.whole ≡ old.whole) (taken_same : new.taken ≡ old.taken) where
-  pub fills : (log : List Write) (whole : Bool) → Opens tells.disk (seen_in old) v
-      → (IsTrue whole → IsTrue tells.disk × IsSoundDisk old.told log)
+  pub fills : (log : List Write) (whole : Bool) → Opens tells.disk old.disk v
+      → (IsTrue whole → IsTrue tells.disk × IsSoundDisk old.disk.told log)
       → IsFillRun tells count old (with_disk u new) (of_fill end) log whole
   fills log whole opens known =
       let o = opening_with whole log v in
       let sub : IsTrue whole → IsTrue tells.disk = λ t. (known t).0 in
-      let done = filled whole sub o [] [] (follows_with tells.disk whole (seen_in old) log v opens known) in
+      let done = filled whole sub o [] [] (follows_with tells.disk whole old.disk log v opens known) in
       record {
         opening = o;
         opened = v;

@@ -6,11 +6,12 @@ use Rattle.bk_base.specs.declared.statuses.Status.TheVariants.{Done, Memory, Wor
 use Rattle.bk_base.specs.declared.writes.Write.{Write}
 use Rattle.bk_disk.specs.Causes.{Rose}
 use Rattle.bk_disk.specs.Crashes.{MayLeave, front_of}
+use Rattle.bk_disk.specs.Shown.{DiskShown}
 use Rattle.bk_disk.specs.Told.{Front, Image, IsOnce, IsWell, Table, Told, at, clock, names}
 use Rattle.bk_image.specs.SoundDirectory.{IsSound, IsSoundDisk}
 use Rattle.bk_image.specs.Readings.{main}
 use Rattle.bk_keydir.specs.Slots.{has_open}
-use Rattle.bk_load.specs.Courses.{Came, Course, Seen}
+use Rattle.bk_load.specs.Courses.{Came, Course}
 use Rattle.bk_load.specs.SettingsFile.{Answers, Loads, settings_file}
 use Rattle.bk_load.specs.Steps.{AsksOnly}
 use Rattle.bk_load.specs.Tidying.{Goes}
@@ -27,7 +28,8 @@ use Rattle.bk_store.specs.Events.{KeepsPast}
 use Rattle.bk_store.specs.Shown.{Shown}
 use Rattle.bk_store.specs.Standing.{StandsFor}
 use Rattle.bk_store.specs.Starting.{opening_of}
-use Rattle.bitcaskd.specs.Opening.{IsCauseOf, IsRefused, KeepsLog, Opens, SaysSettings, files_seen, of_open, of_settings}
+use Rattle.bk_files.specs.Files.{disk_shown}
+use Rattle.bitcaskd.specs.Opening.{IsCauseOf, IsRefused, KeepsLog, Opens, SaysSettings, of_open, of_settings}
 use Rattle.bitcaskd.specs.Commands.{MayEnd}
 use Rattle.bitcaskd.specs.Run.{OpensAt}
 use Rattle.bitcaskd.specs.declared.command.Command.TheVariants.{Open}
@@ -57,7 +59,7 @@ keeps_log t u log goes well sound = record {
 
 -- ---- what the calls of an opening make of a disk
 
-pub settings_came : (tells : Bool) (was now : Seen) (len : ℕ) (r : Result StoreSettings LoadSettings) → Loads was now r
+pub settings_came : (tells : Bool) (was now : DiskShown) (len : ℕ) (r : Result StoreSettings LoadSettings) → Loads was now r
     → (IsTrue tells → AsksOnly settings_file len was.told now.told) → Came tells was now
 settings_came tells was now len r loads asked = record {
   faults = loads.faults;
@@ -78,15 +80,15 @@ holds_still len t u log asks sound = record {
 }
 
 -- the directory was opened with the settings that were read
-pub opens_by : (tells : Bool) (was now : Seen) (store : Shown) (settings : StoreSettings) → Came tells was now
+pub opens_by : (tells : Bool) (was now : DiskShown) (store : Shown) (settings : StoreSettings) → Came tells was now
     → (IsTrue tells → (log : List Write) → IsSoundDisk was.told log → IsSoundDisk now.told log)
-    → (IsTrue tells → SaysSettings was.told settings) → Came tells now (files_seen store.files)
+    → (IsTrue tells → SaysSettings was.told settings) → Came tells now (disk_shown store.files)
     → store.settings ≡ settings → store.files.catalog.max_file ≡ settings.max_file → has_open store.keys.slots ≡ false
     → (IsTrue tells → (log : List Write) → IsSoundDisk now.told log
     → StandsFor store (opening_of log store) [] [])
     → Opens tells was store
 opens_by tells was now store settings before holds says after are limit no_fold stands = record {
-  came = came_trans tells was now (files_seen store.files) before after;
+  came = came_trans tells was now (disk_shown store.files) before after;
   rested = record {
     no_fold = no_fold;
     limit = limit ∙ ap (λ (x : StoreSettings). x.max_file) (sym are);
@@ -95,7 +97,7 @@ opens_by tells was now store settings before holds says after are limit no_fold 
   stands = λ t log is. stands t log (holds t log is);
 }
 
-pub no_settings : (tells : Bool) (was now : Seen) (e : LoadSettings) → Came tells was now
+pub no_settings : (tells : Bool) (was now : DiskShown) (e : LoadSettings) → Came tells was now
     → Loads was now (Err e) → (IsTrue tells → Answers (at was.told.image settings_file) (Err e))
     → IsRefused tells was now (of_settings e)
 no_settings tells was now (Bad error) came loads says = record { cause = λ t. (error, says t); came = came }
@@ -103,7 +105,7 @@ no_settings tells was now settings_disk came loads says = record { cause = inl (
 no_settings tells was now settings_read came loads says = record { cause = inr (loads.read refl); came = came }
 no_settings tells was now settings_memory came loads says = record { cause = tt; came = came }
 
-pub not_opened : (tells : Bool) (was now last : Seen) (e : OpenError) → Came tells was now
+pub not_opened : (tells : Bool) (was now last : DiskShown) (e : OpenError) → Came tells was now
     → Course {T = Unit {0}} tells now last (Err e) → IsRefused tells was last (of_open e)
 not_opened tells was now last open_disk before course = record {
   cause = inl (rose_since was.faults now.faults last.faults before.faults (course.disk refl));
@@ -119,17 +121,17 @@ not_opened tells was now last open_memory before course =
 -- ---- the status of a run
 
 -- a count that rose behind the opening rose in the run
-pub rose_in_run : (tells : Bool) (was : Seen) (store : Shown) (faults : ℕ) → Opens tells was store
+pub rose_in_run : (tells : Bool) (was : DiskShown) (store : Shown) (faults : ℕ) → Opens tells was store
     → Rose store.files.faults faults → Rose was.faults faults
 rose_in_run tells was store faults opens rose =
     rose_since was.faults store.files.faults faults opens.came.faults rose
 
-pub views_in_run : (tells : Bool) (was : Seen) (store : Shown) (views : ℕ) → Opens tells was store
+pub views_in_run : (tells : Bool) (was : DiskShown) (store : Shown) (views : ℕ) → Opens tells was store
     → Rose store.files.fallible_views views → Rose was.views views
 views_in_run tells was store views opens rose =
     rose_since was.views store.files.fallible_views views opens.came.views rose
 
-pub refused_ends : (tells : Bool) (was now : Seen) (status : Status) → IsRefused tells was now status
+pub refused_ends : (tells : Bool) (was now : DiskShown) (status : Status) → IsRefused tells was now status
     → (work : Work) → MayEnd (Open work) status
 refused_ends tells was now status refused work = go status refused.cause
   where
@@ -148,6 +150,6 @@ refused_ends tells was now status refused work = go status refused.cause
     go Door is = absurd is
 
 -- what such a refusal says of a status
-pub caused : (tells : Bool) (was now : Seen) (status other : Status) → IsRefused tells was now status → status ≡ other
+pub caused : (tells : Bool) (was now : DiskShown) (status other : Status) → IsRefused tells was now status → status ≡ other
     → IsCauseOf other tells was now
 caused tells was now status other refused is = subst (λ (s : Status). IsCauseOf s tells was now) is refused.cause

@@ -3,16 +3,18 @@ use Rattle.std.proofs.Common.{◌≡◌, ◌∙◌, ◌⊎◌, ℕ, ◌+◌, ◌
 use Rattle.std.proofs.Common.{refl, sym, subst, arith, inl, inr, IsTrue}
 use Rattle.bk_base.specs.declared.histories.Opening.{Opening}
 use Rattle.bk_base.specs.declared.statuses.SessionEnd.{SessionEnd}
+use Rattle.bk_base.specs.declared.statuses.SessionEnd.TheVariants.{Disk as disk_end}
 use Rattle.bk_base.specs.declared.statuses.Status.{Status}
 use Rattle.bk_base.specs.declared.statuses.Status.TheVariants.{Disk}
 use Rattle.bk_base.specs.declared.writes.Write.{Write}
 use Rattle.bk_disk.specs.Causes.{Rose, most}
 use Rattle.bk_disk.specs.Counts.{Counted}
+use Rattle.bk_disk.specs.Shown.{DiskShown}
 use Rattle.bk_disk.specs.Told.{Front, Table, clock}
 use Rattle.bk_exchange.specs.Sessions.{exchanges}
+use Rattle.bk_files.specs.Files.{disk_shown}
 use Rattle.bk_image.proofs.HoldsCrashes.{holds_now, holds_prefix}
 use Rattle.bk_image.specs.SoundDirectory.{IsSoundDisk}
-use Rattle.bk_load.specs.Courses.{Seen}
 use Rattle.bk_session.specs.Crashes.{CrashesAt}
 use Rattle.bk_session.specs.Following.{Follows}
 use Rattle.bk_session.specs.Sessions.{IsHeldFor, sides_of}
@@ -25,7 +27,7 @@ use Rattle.bk_store.specs.Starting.{opening_of}
 use Rattle.bk_store.proofs.Starting.{no_slot}
 use Rattle.bitcaskd.specs.Closing.{ClosesBy, status_of}
 use Rattle.bitcaskd.specs.Opening.{IsRested, Opens}
-use Rattle.bitcaskd.specs.Run.{IsOpenedBy, IsRun, Outside, Telling, client_tells, most_taken, seen_in}
+use Rattle.bitcaskd.specs.Run.{IsOpenedBy, IsRun, Outside, Telling, client_tells, most_taken}
 use Rattle.bitcaskd.proofs.ClosingLaws.{last_step, sync_rose}
 use Rattle.bitcaskd.proofs.OpeningLaws.{opens_at}
 use Rattle.bk_store.proofs.Pasts.{past_then}
@@ -40,7 +42,7 @@ opening_with false log v = untold_opening v
 follows_rested : (v : Shown) → IsRested v → Follows false v (untold_opening v) [] []
 follows_rested v rested = follows_untold v rested.limit (λ n. no_slot v.keys.slots n rested.no_fold)
 
-pub follows_with : (tells whole : Bool) (was : Seen) (log : List Write) (v : Shown) → Opens tells was v
+pub follows_with : (tells whole : Bool) (was : DiskShown) (log : List Write) (v : Shown) → Opens tells was v
     → (IsTrue whole → IsTrue tells × IsSoundDisk was.told log) → Follows whole v (opening_with whole log v) [] []
 follows_with tells true was log v opens known =
     follows_standing true v (opening_of log v) [] [] refl opens.rested.limit
@@ -48,7 +50,7 @@ follows_with tells true was log v opens known =
 follows_with tells false was log v opens known = follows_rested v opens.rested
 
 pub opened_by : (tells : Telling) (old : Outside) (v : Shown) (log : List Write) (whole : Bool)
-    → Opens tells.disk (seen_in old) v → IsOpenedBy tells old log whole (opening_with whole log v)
+    → Opens tells.disk old.disk v → IsOpenedBy tells old log whole (opening_with whole log v)
 opened_by tells old v log true opens = record {
   log = λ t. refl;
   folds = refl;
@@ -76,13 +78,7 @@ opened_by tells old v log false opens = record {
 
 -- what the objects show as the run ends: the store's disk, and the streams
 abbrev pub with_disk : Shown → Outside → Outside
-with_disk u o =
-    record o {
-      told = u.files.told;
-      faults = u.files.faults;
-      views = u.files.fallible_views;
-      outs = u.files.fallible_outs;
-    }
+with_disk u o = record o { disk = disk_shown u.files }
 
 -- what a session does, with all that is known of the store
 abbrev pub IsServed : Telling → Shown → Shown → Outside → Outside → SessionEnd → Type 0
@@ -102,14 +98,14 @@ module _ (tells : Telling) (old new : Outside) (v m u : Shown) (end : SessionEnd
     (source : IsTrue tells.source → new.whole ≡ old.whole) (closes : ClosesBy (status_of end) status tells.disk m u)
     (behind : IsTrue tells.disk → KeepsPast m.files.told u.files.told) where
   -- The session and the sync are one run.
-  pub runs : (log : List Write) (whole : Bool) → Opens tells.disk (seen_in old) v
-      → (IsTrue whole → IsTrue tells.disk × IsSoundDisk old.told log)
+  pub runs : (log : List Write) (whole : Bool) → Opens tells.disk old.disk v
+      → (IsTrue whole → IsTrue tells.disk × IsSoundDisk old.disk.told log)
       → IsRun tells old (with_disk u new) status log whole
   runs log whole opens known =
       let o = opening_with whole log v in
       let is_opened = opened_by tells old v log whole opens in
       let sub : IsTrue whole → IsTrue tells.disk = λ t. (known t).0 in
-      let held = served whole sub o [] [] (follows_with tells.disk whole (seen_in old) log v opens known) in
+      let held = served whole sub o [] [] (follows_with tells.disk whole old.disk log v opens known) in
       let last = last_step tells.disk whole m u o held.h2 held.tried end status closes sub held.follows in
       record {
         opening = o;
@@ -136,8 +132,8 @@ module _ (tells : Telling) (old new : Outside) (v m u : Shown) (end : SessionEnd
         crash = λ t. record {
           opened = clock v.files.told;
           ended = clock m.files.told;
-          opens = opens_at old.told v.files.told u.files.told o.log (opens.came.goes (sub t))
-              (subst (λ (l : List Write). IsSoundDisk old.told l) (sym (is_opened.log t)) (known t).1)
+          opens = opens_at old.disk.told v.files.told u.files.told o.log (opens.came.goes (sub t))
+              (subst (λ (l : List Write). IsSoundDisk old.disk.told l) (sym (is_opened.log t)) (known t).1)
               (past_then v.files.told m.files.told u.files.told (past (sub t)) (behind (sub t)));
           serves = record {
             later = (past (sub t)).later;
@@ -153,9 +149,9 @@ module _ (tells : Telling) (old new : Outside) (v m u : Shown) (end : SessionEnd
         outs = last.follows.agrees.counts.outs;
       }
 
-  -- A run ends by the disk only where it failed.
-  pub disk_rose : IsRested v → status ≡ Disk → Rose v.files.faults u.files.faults
-  disk_rose rested is =
+  -- A run whose session didn't end by the disk ends by it only where it failed.
+  pub disk_rose : IsRested v → (end ≡ disk_end → ⊥) → status ≡ Disk → Rose v.files.faults u.files.faults
+  disk_rose rested never is =
       let held = served false (λ t. absurd (cc t)) (untold_opening v) [] [] (follows_rested v rested) in
       rose_behind v.files.faults _ m.files.faults u.files.faults held.follows.agrees.counts.faults
-      (sync_rose tells.disk end status m u closes is)
+      (sync_rose tells.disk end status m u never closes is)

@@ -9,7 +9,7 @@ use Rattle.bk_store.specs.Events.{KeepsPast}
 use Rattle.bk_store.specs.Shown.{Shown}
 use Rattle.bk_store.specs.Standing.{StandsFor}
 use Rattle.bitcaskd.specs.Opening.{Opens}
-use Rattle.bitcaskd.specs.Run.{IsLeftWith, Outside, Telling, seen_in}
+use Rattle.bitcaskd.specs.Run.{IsLeftWith, Outside, Telling}
 use Rattle.bitcaskd.specs.Stores.{WorksOn}
 use Rattle.bitcaskd.proofs.OpeningLaws.{opens_at}
 use Rattle.bitcaskd.proofs.RunLaws.{opened_by, opening_with, with_disk}
@@ -24,7 +24,7 @@ left_with u o h tried stands = record {
 }
 
 module _ (tells : Telling) (old new : Outside) (v u : Shown) (log : List Write) (whole : Bool)
-    (opens : Opens tells.disk (seen_in old) v) (known : IsTrue whole → IsTrue tells.disk × IsSoundDisk old.told log)
+    (opens : Opens tells.disk old.disk v) (known : IsTrue whole → IsTrue tells.disk × IsSoundDisk old.disk.told log)
     (past : IsTrue tells.disk → KeepsPast v.files.told u.files.told) where
   pub works_on : new.whole ≡ old.whole → new.taken ≡ old.taken
       → WorksOn tells old (with_disk u new) log whole (opening_with whole log v) v u
@@ -33,8 +33,8 @@ module _ (tells : Telling) (old new : Outside) (v u : Shown) (log : List Write) 
       let is_opened = opened_by tells old v log whole opens in
       record {
         is_opened = is_opened;
-        opens = λ t. opens_at old.told v.files.told u.files.told o.log (opens.came.goes (known t).0)
-            (subst (λ (l : List Write). IsSoundDisk old.told l) (sym (is_opened.log t)) (known t).1) (past (known t).0);
+        opens = λ t. opens_at old.disk.told v.files.told u.files.told o.log (opens.came.goes (known t).0)
+            (subst (λ (l : List Write). IsSoundDisk old.disk.told l) (sym (is_opened.log t)) (known t).1) (past (known t).0);
         is_left = refl;
         source = whole_same;
         taken = taken_same;

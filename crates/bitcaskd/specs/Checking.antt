@@ -12,7 +12,7 @@ use Rattle.bk_report.specs.Directory.{IsReportOf}
 use Rattle.bk_report.specs.declared.errors.ReportError.{ReportError}
 use Rattle.bk_report.specs.declared.errors.ReportError.TheVariants.{Disk as report_disk, Read as report_read, Sink as report_sink, Memory as report_memory}
 use Rattle.bitcaskd.specs.Opening.{IsCauseOf, KeepsLog, SaysSettings}
-use Rattle.bitcaskd.specs.Run.{Outside, Telling, seen_in}
+use Rattle.bitcaskd.specs.Run.{Outside, Telling}
 
 -- What was written: the report of the directory as it was found; a first part of it, where the sink failed; or else
 -- nothing.
@@ -23,17 +23,17 @@ Reports status tells was now output = output ≡ []
 
 -- Why it ended so: the work is done, the sink failed, or the directory wasn't recovered.
 abbrev pub IsEndOf : Status → Telling → Outside → Outside → Type 0
-IsEndOf Done tells old new = IsTrue tells.disk → (settings : Settings) × SaysSettings old.told settings
+IsEndOf Done tells old new = IsTrue tells.disk → (settings : Settings) × SaysSettings old.disk.told settings
 IsEndOf Sink tells old new = Rose old.sink_faults new.sink_faults
-IsEndOf status tells old new = IsCauseOf status tells.disk (seen_in old) (seen_in new)
+IsEndOf status tells old new = IsCauseOf status tells.disk old.disk new.disk
 
 -- The same files count afterwards as before, and whatever log the directory held it still holds. Nothing was
 -- read, and no moment was asked for.
 pub record Checks (tells : Telling) (old new : Outside) (status : Status) : Type 0 where
-  pub came : Came tells.disk (seen_in old) (seen_in new)
-  pub keeps : IsTrue tells.disk → (log : List Write) → IsSoundDisk old.told log → KeepsLog old.told new.told log
+  pub came : Came tells.disk old.disk new.disk
+  pub keeps : IsTrue tells.disk → (log : List Write) → IsSoundDisk old.disk.told log → KeepsLog old.disk.told new.disk.told log
   pub output : List ℕ
-  pub reports : Reports status tells.disk old.told new.told output
+  pub reports : Reports status tells.disk old.disk.told new.disk.told output
   pub wrote : IsTrue tells.sink → new.written ≡ old.written ++ output
   pub ended : IsEndOf status tells old new
   pub later : old.sink_faults ≤ new.sink_faults

@@ -6,7 +6,7 @@ use Rattle.bk_base.specs.declared.histories.Opening.{Opening}
 use Rattle.bk_base.specs.declared.histories.Step.{Step}
 use Rattle.bk_base.specs.declared.numbers.Seq.{Seq}
 use Rattle.bk_base.specs.declared.statuses.SessionEnd.{SessionEnd}
-use Rattle.bk_base.specs.declared.statuses.SessionEnd.TheVariants.{Quit, End, Syntax as syntax_end, Source as source_end, Sink as sink_end, Long as long_end, Memory as memory_end}
+use Rattle.bk_base.specs.declared.statuses.SessionEnd.TheVariants.{Quit, End, Syntax as syntax_end, Source as source_end, Sink as sink_end, Long as long_end, Memory as memory_end, Disk as disk_end}
 use Rattle.bk_base.specs.declared.statuses.Status.{Status}
 use Rattle.bk_base.specs.declared.statuses.Status.TheVariants.{Done, Memory, Disk, Source, Sink, Syntax, Long}
 use Rattle.bk_base.specs.declared.writes.Write.{Write}
@@ -29,6 +29,7 @@ status_of source_end = Source
 status_of sink_end = Sink
 status_of long_end = Long
 status_of memory_end = Memory
+status_of disk_end = Disk
 
 -- A sync that fails changes the status Done alone.
 abbrev pub if_unsynced : Status → Status

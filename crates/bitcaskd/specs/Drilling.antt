@@ -9,7 +9,7 @@ use Rattle.bk_drill.specs.Drills.{telling as drill_telling}
 use Rattle.bk_drill.specs.declared.ends.DrillEnd.{DrillEnd}
 use Rattle.bk_drill.specs.declared.ends.DrillEnd.TheVariants.{End as drill_end, Syntax as drill_syntax, Source as drill_source, Sink as drill_sink, Long as drill_long, Memory as drill_memory}
 use Rattle.bk_exchange.specs.Sessions.{IsStart}
-use Rattle.bitcaskd.specs.Run.{Outside, Telling, most_taken, seen_in}
+use Rattle.bitcaskd.specs.Run.{Outside, Telling, most_taken}
 
 -- the status of a run whose drill ended so
 abbrev pub of_drill : DrillEnd → Status
@@ -36,5 +36,5 @@ pub record Drills (tells : Telling) (old new : Outside) (status : Status) : Type
   pub source : IsTrue tells.source → new.whole ≡ old.whole
   pub behind : IsTrue tells.sink → IsStart old.written new.written
   pub later : old.sink_faults ≤ new.sink_faults
-  pub disk : seen_in new ≡ seen_in old
+  pub disk : new.disk ≡ old.disk
   pub moments : new.moments ≡ old.moments

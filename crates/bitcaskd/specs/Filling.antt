@@ -33,10 +33,10 @@ pub record IsFillRun (tells : Telling) (count : ℕ) (old new : Outside) (status
   pub is_status : status ≡ of_fill end
   pub filled : IsFilled whole (telling tells.sink tells.clock) count (sides_of opened old.written old.moments)
       (sides_of left new.written new.moments) end opening [] []
-  pub leaves : IsTrue whole → IsLeftWith new.told opening
+  pub leaves : IsTrue whole → IsLeftWith new.disk.told opening
       (steps_of ((filled.worked.puts ++ filled.worked.rest) ++ filled.worked.sync ∷ [])) filled.worked.made.tried
 
 -- of each log that the directory holds, as of a session
 abbrev pub Fills : ℕ → Telling → Outside → Outside → Status → Type 0
 Fills count tells old new status = (log : List Write) (whole : Bool)
-    → (IsTrue whole → IsTrue tells.disk × IsSoundDisk old.told log) → IsFillRun tells count old new status log whole
+    → (IsTrue whole → IsTrue tells.disk × IsSoundDisk old.disk.told log) → IsFillRun tells count old new status log whole

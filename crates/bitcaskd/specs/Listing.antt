@@ -33,9 +33,9 @@ pub record IsListRun (tells : Telling) (old new : Outside) (status : Status) (lo
   pub is_status : status ≡ of_list end
   pub lists : ListsStore (tells_of whole tells.sink tells.clock) (sides_of opened old.written old.moments)
       (sides_of left new.written new.moments) end opening [] []
-  pub leaves : IsTrue whole → IsLeftWith new.told opening lists.steps []
+  pub leaves : IsTrue whole → IsLeftWith new.disk.told opening lists.steps []
 
 -- of each log that the directory holds, as of a session
 abbrev pub Lists : Telling → Outside → Outside → Status → Type 0
 Lists tells old new status = (log : List Write) (whole : Bool)
-    → (IsTrue whole → IsTrue tells.disk × IsSoundDisk old.told log) → IsListRun tells old new status log whole
+    → (IsTrue whole → IsTrue tells.disk × IsSoundDisk old.disk.told log) → IsListRun tells old new status log whole

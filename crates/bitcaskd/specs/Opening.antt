@@ -5,11 +5,12 @@ use Rattle.bk_base.specs.declared.statuses.Status.TheVariants.{Memory, Disk, Set
 use Rattle.bk_base.specs.declared.writes.Write.{Write}
 use Rattle.bk_disk.specs.Causes.{Rose}
 use Rattle.bk_disk.specs.Crashes.{AtEach, MayLeave}
+use Rattle.bk_disk.specs.Shown.{DiskShown}
 use Rattle.bk_disk.specs.Told.{Front, Image, Table, Told, at, clock}
-use Rattle.bk_files.specs.Files.{Seen as FilesSeen}
+use Rattle.bk_files.specs.Files.{disk_shown}
 use Rattle.bk_image.specs.SoundDirectory.{IsSound, IsSoundDisk}
 use Rattle.bk_keydir.specs.Slots.{has_open}
-use Rattle.bk_load.specs.Courses.{Came, Seen}
+use Rattle.bk_load.specs.Courses.{Came}
 use Rattle.bk_load.specs.SettingsFile.{Answers, settings_file}
 use Rattle.bk_load.specs.declared.errors.LoadSettings.{LoadSettings}
 use Rattle.bk_load.specs.declared.errors.LoadSettings.TheVariants.{Bad, Disk as settings_disk, Read as settings_read, Memory as settings_memory}
@@ -38,19 +39,16 @@ abbrev pub SaysNoSettings : Told → Type 0
 SaysNoSettings t = (error : SettingsError) × Answers (at t.image settings_file) (Err (Bad error))
 
 -- Why it wasn't opened: the file of the settings says none, a call or a view failed, or memory ran out.
-abbrev pub IsCauseOf : Status → Bool → Seen → Seen → Type 0
+abbrev pub IsCauseOf : Status → Bool → DiskShown → DiskShown → Type 0
 IsCauseOf Settings tells was now = IsTrue tells → SaysNoSettings was.told
 IsCauseOf Disk tells was now = Rose was.faults now.faults ⊎ Rose was.views now.views
 IsCauseOf Memory tells was now = Unit {0}
 IsCauseOf status tells was now = ⊥
 
 -- After a refusal the same files count as before.
-pub record IsRefused (tells : Bool) (was now : Seen) (status : Status) : Type 0 where
+pub record IsRefused (tells : Bool) (was now : DiskShown) (status : Status) : Type 0 where
   pub cause : IsCauseOf status tells was now
   pub came : Came tells was now
-
-abbrev pub files_seen : FilesSeen → Seen
-files_seen f = record { told = f.told; faults = f.faults; views = f.fallible_views; outs = f.fallible_outs }
 
 -- No fold is open, and a file is sealed at the length that the settings say.
 pub record IsRested (store : Shown) : Type 0 where
@@ -58,8 +56,8 @@ pub record IsRested (store : Shown) : Type 0 where
   pub limit : store.files.catalog.max_file ≡ store.settings.max_file
 
 -- The store has the settings that the file says, and stands for the log that the directory held.
-pub record Opens (tells : Bool) (was : Seen) (store : Shown) : Type 0 where
-  pub came : Came tells was (files_seen store.files)
+pub record Opens (tells : Bool) (was : DiskShown) (store : Shown) : Type 0 where
+  pub came : Came tells was (disk_shown store.files)
   pub rested : IsRested store
   pub says : IsTrue tells → SaysSettings was.told store.settings
   pub stands : IsTrue tells → (log : List Write) → IsSoundDisk was.told log

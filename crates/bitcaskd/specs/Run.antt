@@ -11,6 +11,7 @@ use Rattle.bk_base.specs.declared.statuses.Status.{Status}
 use Rattle.bk_base.specs.declared.writes.Write.{Write}
 use Rattle.bk_disk.specs.Counts.{Counted}
 use Rattle.bk_disk.specs.Crashes.{MayLeaveNow, fronts_at}
+use Rattle.bk_disk.specs.Shown.{DiskShown}
 use Rattle.bk_disk.specs.Told.{Image, Told, clock}
 use Rattle.bk_exchange.specs.Exchanges.{Exchange}
 use Rattle.bk_exchange.specs.OneThread.{OneThread}
@@ -19,7 +20,6 @@ use Rattle.bk_exchange.specs.Sessions.{Telling as ClientTelling}
 use Rattle.bk_image.specs.Prefix.{MeetsEither, MeetsPrefix, Prefix}
 use Rattle.bk_image.specs.SoundDirectory.{IsSoundDisk}
 use Rattle.bk_laws.specs.History.{IsLegalHistory, log_of}
-use Rattle.bk_load.specs.Courses.{Seen}
 use Rattle.bk_policy.specs.declared.settings.Settings.{Settings as StoreSettings}
 use Rattle.bk_session.specs.Crashes.{CrashesAt}
 use Rattle.bk_session.specs.Following.{own_context}
@@ -38,32 +38,22 @@ pub record Telling : Type 0 where
 -- what the objects show: the disk with its counts, what the source holds and how much of it was
 -- taken, what the sink took and how often it failed, and the moments that the clock has to give
 pub record Outside : Type 0 where
-  pub told : Told
-  pub faults : ℕ
-  pub views : ℕ
-  pub outs : ℕ
+  pub disk : DiskShown
   pub whole : List ℕ
   pub taken : ℕ
   pub written : List ℕ
   pub sink_faults : ℕ
   pub moments : List Moment
 
-abbrev pub outside : Told → ℕ → ℕ → ℕ → List ℕ → ℕ → List ℕ → ℕ → List Moment → Outside
-outside told faults views outs whole taken written sink_faults moments = record {
-  told = told;
-  faults = faults;
-  views = views;
-  outs = outs;
+abbrev pub outside : DiskShown → List ℕ → ℕ → List ℕ → ℕ → List Moment → Outside
+outside disk whole taken written sink_faults moments = record {
+  disk = disk;
   whole = whole;
   taken = taken;
   written = written;
   sink_faults = sink_faults;
   moments = moments;
 }
-
--- the disk alone
-abbrev pub seen_in : Outside → Seen
-seen_in o = record { told = o.told; faults = o.faults; views = o.views; outs = o.outs }
 
 abbrev pub telling : Bool → Bool → Bool → Bool → Telling
 telling disk source sink clock = record { disk = disk; source = source; sink = sink; clock = clock }
@@ -163,11 +153,11 @@ pub record IsOpenedBy (tells : Telling) (old : Outside) (found : List Write) (kn
   pub folds : o.folds ≡ []
   pub whole : o.whole ≡ known
   pub settings : StoreSettings
-  pub says : IsTrue tells.disk → SaysSettings old.told settings
+  pub says : IsTrue tells.disk → SaysSettings old.disk.told settings
   pub are : o.settings ≡ settings_of settings
-  pub faults : old.faults ≤ o.faults
-  pub views : old.views ≤ o.views
-  pub outs : o.outs ≡ old.outs
+  pub faults : old.disk.faults ≤ o.faults
+  pub views : old.disk.views ≤ o.views
+  pub outs : o.outs ≡ old.disk.outs
 
 -- The run is one history: a session with the client on one thread, and a sync. What is said of the store is said
 -- where the opening is `whole`; the rest holds over every disk.
@@ -185,26 +175,26 @@ pub record IsRun (tells : Telling) (old new : Outside) (status : Status) (log : 
   pub wrote : IsTrue tells.sink → new.written ≡ old.written ++ output
   pub closing : Step
   pub own : closing.entry.caller ≡ 0
-  pub closes : Closes whole new.told (log_of opening steps) end status closing
-  pub closed : IsTrue whole → closing.at ≡ Some (clock new.told)
+  pub closes : Closes whole new.disk.told (log_of opening steps) end status closing
+  pub closed : IsTrue whole → closing.at ≡ Some (clock new.disk.told)
   pub legal : IsTrue whole → IsLegalHistory opening (steps ++ closing ∷ [])
-  pub left : IsTrue whole → IsLeftWith new.told opening (steps ++ closing ∷ []) tried
-  pub crash : IsTrue whole → CrashesIn old.told new.told opening (exchanges session.transcript) steps tried
-  pub faults : Counted false opening.faults (faults_in (steps ++ closing ∷ [])) new.faults
-  pub views : Counted false opening.views (views_in (steps ++ closing ∷ [])) new.views
-  pub outs : Counted false opening.outs (outs_in (steps ++ closing ∷ [])) new.outs
+  pub left : IsTrue whole → IsLeftWith new.disk.told opening (steps ++ closing ∷ []) tried
+  pub crash : IsTrue whole → CrashesIn old.disk.told new.disk.told opening (exchanges session.transcript) steps tried
+  pub faults : Counted false opening.faults (faults_in (steps ++ closing ∷ [])) new.disk.faults
+  pub views : Counted false opening.views (views_in (steps ++ closing ∷ [])) new.disk.views
+  pub outs : Counted false opening.outs (outs_in (steps ++ closing ∷ [])) new.disk.outs
 
 -- It is so for each log that the directory holds. Where none is known of it, because the disk doesn't tell
 -- or its directory isn't sound, it is so with an opening that isn't `whole`, and with some log.
 abbrev pub Runs : Telling → Outside → Outside → Status → Type 0
 Runs tells old new status = (log : List Write) (whole : Bool)
-    → (IsTrue whole → IsTrue tells.disk × IsSoundDisk old.told log) → IsRun tells old new status log whole
+    → (IsTrue whole → IsTrue tells.disk × IsSoundDisk old.disk.told log) → IsRun tells old new status log whole
 
 -- The directory wasn't opened: nothing was read or written, and no moment was asked for. Whatever log the
 -- directory held, it still holds.
 pub record Refuses (tells : Telling) (old new : Outside) (status : Status) : Type 0 where
-  pub is_refused : IsRefused tells.disk (seen_in old) (seen_in new) status
-  pub keeps : IsTrue tells.disk → (log : List Write) → IsSoundDisk old.told log → KeepsLog old.told new.told log
+  pub is_refused : IsRefused tells.disk old.disk new.disk status
+  pub keeps : IsTrue tells.disk → (log : List Write) → IsSoundDisk old.disk.told log → KeepsLog old.disk.told new.disk.told log
   pub whole : new.whole ≡ old.whole
   pub taken : new.taken ≡ old.taken
   pub written : new.written ≡ old.written

@@ -21,13 +21,12 @@ pub fn check<D: Disk, K: Sink, P: Progress>(
     sink: &mut K,
     progress: &mut P,
 ) -> Ended<D>
-    requires { IsTrue D.tells → NoneLent (D.told disk).fronts }
+    requires { IsTrue D.tells → NoneLent (D.shown disk).told.fronts }
     ensures { (source clock : Bool) (whole : List ℕ) (taken : ℕ) (moments : List Moment)
         → Checks (telling D.tells source K.tells clock)
-        (outside (D.told disk) (D.faults disk) (D.fallible_views disk) (D.fallible_outs disk) whole taken
+        (outside (D.shown disk) whole taken
         (K.written sink.old) (K.faults sink.old) moments)
-        (outside (D.told result.disk) (D.faults result.disk) (D.fallible_views result.disk)
-        (D.fallible_outs result.disk) whole taken (K.written sink.new) (K.faults sink.new) moments) result.status }
+        (outside (D.shown result.disk) whole taken (K.written sink.new) (K.faults sink.new) moments) result.status }
 {
     match settings(alloc, &mut disk) {
         Ok(_) => {

@@ -18,6 +18,7 @@ pub fn status_of(end: SessionEnd) -> Status
         SessionEnd::Sink => Status::Sink,
         SessionEnd::Long => Status::Long,
         SessionEnd::Memory => Status::Memory,
+        SessionEnd::Disk => Status::Disk,
     }
 }
 

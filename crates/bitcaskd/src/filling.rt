@@ -1,7 +1,7 @@
 //! A run that fills its store.
 ghost use Rattle.std.specs.Prelude.{◌≡◌, ℕ, Bool, List};
 ghost use Rattle.bk_disk.specs.Causes.{Rose};
-ghost use Rattle.bk_load.specs.Courses.{Seen};
+ghost use Rattle.bk_disk.specs.Shown.{DiskShown};
 ghost use Rattle.bitcaskd.specs.Commands.{MayEnd};
 ghost use Rattle.bitcaskd.specs.Filling.{Fills, of_fill};
 ghost use Rattle.bitcaskd.specs.Opening.{Opens};
@@ -26,15 +26,14 @@ pub fn fill_store<D: Disk, K: Sink, C: Clock, P: Progress>(
     count: u32,
     progress: &mut P,
 ) -> Ended<D>
-    ensures ran { (was : Seen) (source : Bool) (whole : List ℕ) (taken : ℕ) → Opens D.tells was store
+    ensures ran { (was : DiskShown) (source : Bool) (whole : List ℕ) (taken : ℕ) → Opens D.tells was store
         → Fills count (telling D.tells source K.tells C.tells)
-        (outside was.told was.faults was.views was.outs whole taken (K.written sink.old) (K.faults sink.old)
+        (outside was whole taken (K.written sink.old) (K.faults sink.old)
         (C.moments clock.old))
-        (outside (D.told result.disk) (D.faults result.disk) (D.fallible_views result.disk)
-        (D.fallible_outs result.disk) whole taken (K.written sink.new) (K.faults sink.new) (C.moments clock.new))
+        (outside (D.shown result.disk) whole taken (K.written sink.new) (K.faults sink.new) (C.moments clock.new))
         result.status }
     ensures ends { MayEnd (Open (Fill count)) result.status }
-    ensures disk { result.status ≡ Status.Disk → Rose store.files.faults (D.faults result.disk) }
+    ensures disk { result.status ≡ Status.Disk → Rose store.files.faults (D.shown result.disk).faults }
     ensures sink { result.status ≡ Status.Sink → Rose (K.faults sink.old) (K.faults sink.new) }
 {
     let end = fill(alloc, &mut store, sink, clock, count, progress);

@@ -71,7 +71,7 @@ fn over_folder(rt: HostRuntime, words: &[String], dir: &str) -> ExitCode {
 /// Runs the words over a disk and what is the system's. Where they name no folder the disk is an empty one in memory,
 /// which isn't touched.
 fn over_disk<D: Disk + Drop>(rt: HostRuntime, words: &[String], disk: D) -> Status
-    requires { IsTrue D.tells → NoneLent (D.told disk).fronts }
+    requires { IsTrue D.tells → NoneLent (D.shown disk).told.fronts }
 {
     let (mut source, mut sink, mut clock) = (OsSource::new(rt), OsSink::new(rt), OsClock::new(rt));
     let mut progress = ProgressLine::new(rt);

@@ -17,13 +17,11 @@ pub fn open_store<D: Disk, P: Progress>(
     mut disk: D,
     progress: &mut P,
 ) -> Result<Store<D>, (D, Status)>
-    requires { IsTrue D.tells → NoneLent (D.told disk).fronts }
+    requires { IsTrue D.tells → NoneLent (D.shown disk).told.fronts }
     ensures opens { IfOk result (λ store. Opens D.tells
-        (record { told = D.told disk; faults = D.faults disk; views = D.fallible_views disk; outs = D.fallible_outs disk })
+        (D.shown disk)
         store) }
-    ensures refused { IfErr result (λ refused. IsRefused D.tells
-        (record { told = D.told disk; faults = D.faults disk; views = D.fallible_views disk; outs = D.fallible_outs disk })
-        (record { told = D.told refused.0; faults = D.faults refused.0; views = D.fallible_views refused.0; outs = D.fallible_outs refused.0 })
+    ensures refused { IfErr result (λ refused. IsRefused D.tells (D.shown disk) (D.shown refused.0)
         refused.1) }
 {
     let settings = match settings(alloc, &mut disk) {

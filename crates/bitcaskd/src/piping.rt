@@ -1,7 +1,7 @@
 //! A run that holds a session.
 ghost use Rattle.std.specs.Prelude.{◌≡◌};
 ghost use Rattle.bk_disk.specs.Causes.{Rose};
-ghost use Rattle.bk_load.specs.Courses.{Seen};
+ghost use Rattle.bk_disk.specs.Shown.{DiskShown};
 ghost use Rattle.bitcaskd.specs.Commands.{MayEnd};
 ghost use Rattle.bitcaskd.specs.Opening.{IsRested, Opens};
 ghost use Rattle.bitcaskd.specs.Run.{Runs, outside, telling};
@@ -26,14 +26,13 @@ pub fn pipe_store<D: Disk, S: Source, K: Sink, C: Clock>(
     clock: &mut C,
 ) -> Ended<D>
     requires { IsRested store }
-    ensures ran { (was : Seen) → Opens D.tells was store → Runs (telling D.tells S.tells K.tells C.tells)
-        (outside was.told was.faults was.views was.outs (S.whole source.old) (S.taken source.old)
+    ensures ran { (was : DiskShown) → Opens D.tells was store → Runs (telling D.tells S.tells K.tells C.tells)
+        (outside was (S.whole source.old) (S.taken source.old)
         (K.written sink.old) (K.faults sink.old) (C.moments clock.old))
-        (outside (D.told result.disk) (D.faults result.disk) (D.fallible_views result.disk)
-        (D.fallible_outs result.disk) (S.whole source.new) (S.taken source.new) (K.written sink.new) (K.faults sink.new)
+        (outside (D.shown result.disk) (S.whole source.new) (S.taken source.new) (K.written sink.new) (K.faults sink.new)
         (C.moments clock.new)) result.status }
     ensures ends { MayEnd (Open Pipe) result.status }
-    ensures disk { result.status ≡ Status.Disk → Rose store.files.faults (D.faults result.disk) }
+    ensures disk { result.status ≡ Status.Disk → Rose store.files.faults (D.shown result.disk).faults }
     ensures source { result.status ≡ Status.Source
         → Rose (S.faults source.old) (S.faults source.new) }
     ensures sink { result.status ≡ Status.Sink → Rose (K.faults sink.old) (K.faults sink.new) }

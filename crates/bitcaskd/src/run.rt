@@ -1,7 +1,7 @@
 //! The program: from its words, a disk and two streams to a status.
 ghost use Rattle.std.specs.Prelude.{◌≡◌, ◌⊎◌, IsTrue, map, string_bytes};
 ghost use Rattle.bk_disk.specs.Causes.{Rose};
-ghost use Rattle.bk_load.specs.Courses.{Seen};
+ghost use Rattle.bk_disk.specs.Shown.{DiskShown};
 ghost use Rattle.bk_load.specs.Tidying.{NoneLent};
 ghost use Rattle.bitcaskd.specs.Commands.{Does, MayEnd, Works};
 ghost use Rattle.bitcaskd.specs.Opening.{IsRested, Opens};
@@ -39,17 +39,16 @@ fn over_disk<D: Disk, S: Source, K: Sink, C: Clock, P: Progress>(
     clock: &mut C,
     progress: &mut P,
 ) -> Ended<D>
-    requires { IsTrue D.tells → NoneLent (D.told disk).fronts }
+    requires { IsTrue D.tells → NoneLent (D.shown disk).told.fronts }
     ensures ran { let tells = telling D.tells S.tells K.tells C.tells in
-        let old = outside (D.told disk) (D.faults disk) (D.fallible_views disk) (D.fallible_outs disk)
+        let old = outside (D.shown disk)
         (S.whole source.old) (S.taken source.old) (K.written sink.old) (K.faults sink.old) (C.moments clock.old) in
-        let new = outside (D.told result.disk) (D.faults result.disk) (D.fallible_views result.disk)
-        (D.fallible_outs result.disk) (S.whole source.new) (S.taken source.new) (K.written sink.new) (K.faults sink.new)
+        let new = outside (D.shown result.disk) (S.whole source.new) (S.taken source.new) (K.written sink.new) (K.faults sink.new)
         (C.moments clock.new) in
         Refuses tells old new result.status ⊎ Works work tells old new result.status }
     ensures ends { MayEnd (Open work) result.status }
-    ensures disk { result.status ≡ Status.Disk → Rose (D.faults disk) (D.faults result.disk)
-        ⊎ Rose (D.fallible_views disk) (D.fallible_views result.disk) }
+    ensures disk { result.status ≡ Status.Disk → Rose (D.shown disk).faults (D.shown result.disk).faults
+        ⊎ Rose (D.shown disk).views (D.shown result.disk).views }
     ensures source { result.status ≡ Status.Source
         → Rose (S.faults source.old) (S.faults source.new) }
     ensures sink { result.status ≡ Status.Sink → Rose (K.faults sink.old) (K.faults sink.new) }
@@ -71,15 +70,14 @@ fn over_store<D: Disk, S: Source, K: Sink, C: Clock, P: Progress>(
     progress: &mut P,
 ) -> Ended<D>
     requires { IsRested store }
-    ensures ran { (was : Seen) → Opens D.tells was store → Works work (telling D.tells S.tells K.tells C.tells)
-        (outside was.told was.faults was.views was.outs (S.whole source.old) (S.taken source.old)
+    ensures ran { (was : DiskShown) → Opens D.tells was store → Works work (telling D.tells S.tells K.tells C.tells)
+        (outside was (S.whole source.old) (S.taken source.old)
         (K.written sink.old) (K.faults sink.old) (C.moments clock.old))
-        (outside (D.told result.disk) (D.faults result.disk) (D.fallible_views result.disk)
-        (D.fallible_outs result.disk) (S.whole source.new) (S.taken source.new) (K.written sink.new) (K.faults sink.new)
+        (outside (D.shown result.disk) (S.whole source.new) (S.taken source.new) (K.written sink.new) (K.faults sink.new)
         (C.moments clock.new)) result.status }
     ensures ends { MayEnd (Open work) result.status }
-    ensures disk { result.status ≡ Status.Disk → Rose store.files.faults (D.faults result.disk)
-        ⊎ Rose store.files.fallible_views (D.fallible_views result.disk) }
+    ensures disk { result.status ≡ Status.Disk → Rose store.files.faults (D.shown result.disk).faults
+        ⊎ Rose store.files.fallible_views (D.shown result.disk).views }
     ensures source { result.status ≡ Status.Source
         → Rose (S.faults source.old) (S.faults source.new) }
     ensures sink { result.status ≡ Status.Sink → Rose (K.faults sink.old) (K.faults sink.new) }
@@ -102,7 +100,7 @@ pub fn run<D: Disk, S: Source, K: Sink, C: Clock, P: Progress>(
     clock: &mut C,
     progress: &mut P,
 ) -> Ended<D>
-    requires { IsTrue D.tells → NoneLent (D.told disk).fronts }
+    requires { IsTrue D.tells → NoneLent (D.shown disk).told.fronts }
 
     // Words that aren't those of a command are refused before anything is touched. A drill touches the streams alone.
     ensures words { ¬ (IsCommand (map string_bytes words.now)) → result.status ≡ Status.Words }
@@ -113,17 +111,16 @@ pub fn run<D: Disk, S: Source, K: Sink, C: Clock, P: Progress>(
 
     // Otherwise the directory isn't opened, or the run does what the command says.
     ensures ran { let tells = telling D.tells S.tells K.tells C.tells in
-        let old = outside (D.told disk) (D.faults disk) (D.fallible_views disk) (D.fallible_outs disk)
+        let old = outside (D.shown disk)
         (S.whole source.old) (S.taken source.old) (K.written sink.old) (K.faults sink.old) (C.moments clock.old) in
-        let new = outside (D.told result.disk) (D.faults result.disk) (D.fallible_views result.disk)
-        (D.fallible_outs result.disk) (S.whole source.new) (S.taken source.new) (K.written sink.new) (K.faults sink.new)
+        let new = outside (D.shown result.disk) (S.whole source.new) (S.taken source.new) (K.written sink.new) (K.faults sink.new)
         (C.moments clock.new) in
         (command : Command) → AsksFor command (map string_bytes words.now) → Does command tells old new result.status }
 
     // Each status other than `Done` has its cause; `Memory` alone is free.
     ensures ends { (command : Command) → AsksFor command (map string_bytes words.now) → MayEnd command result.status }
-    ensures disk { result.status ≡ Status.Disk → Rose (D.faults disk) (D.faults result.disk)
-        ⊎ Rose (D.fallible_views disk) (D.fallible_views result.disk) }
+    ensures disk { result.status ≡ Status.Disk → Rose (D.shown disk).faults (D.shown result.disk).faults
+        ⊎ Rose (D.shown disk).views (D.shown result.disk).views }
     ensures source { result.status ≡ Status.Source
         → Rose (S.faults source.old) (S.faults source.new) }
     ensures sink { result.status ≡ Status.Sink → Rose (K.faults sink.old) (K.faults sink.new) }

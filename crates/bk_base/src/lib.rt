@@ -3,6 +3,7 @@
 #![tactic(auto)]
 
 mod calls;
+mod damages;
 mod errors;
 mod histories;
 mod inline_bytes;
@@ -19,6 +20,7 @@ mod values;
 mod writes;
 
 pub use calls::{Answer, Call, Entry};
+pub use damages::Damage;
 pub use errors::Memory;
 pub use histories::{OpenFold, Opening, Placed, Snapshot, Step, StoreSettings, WrittenFile};
 pub use jobs::{Cause, JobInput, JobPart, JobState, PartState, Phase};

@@ -1,5 +1,6 @@
 //! What a client asks, and the lines that answer it.
 
+use crate::damages::Damage;
 use crate::keys::Key;
 use crate::numbers::{FileId, Seq};
 use crate::values::Value;
@@ -71,12 +72,7 @@ pub enum Reply {
     /// A read of a file failed.
     Read,
     /// A record has another checksum than the one that was kept of it.
-    Damaged {
-        file: FileId,
-        at: u64,
-        kept: u32,
-        found: u32,
-    },
+    Damaged(Damage),
     /// A file of `total` bytes of whole records ended at `at` instead.
     Cut {
         file: FileId,

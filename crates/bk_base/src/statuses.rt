@@ -39,4 +39,6 @@ pub enum SessionEnd {
     Sink,
     Long,
     Memory,
+    /// Writes whose replies were not sent didn't reach the disk.
+    Disk,
 }

@@ -1,8 +1,10 @@
 pub mod Causes
 pub mod Counts
 pub mod Streams
+pub mod Polls
 pub mod Names
 pub mod Told
+pub mod Shown
 pub mod Crashes
 pub mod Calls
 pub mod Well

@@ -152,14 +152,14 @@ pub unread_is : (b : Between) (l : Lent) (fallible : Bool) (line : Printed) → 
     → (IsTrue b.sound → check_of l.left ≡ l.crc) → IsUnreadFor l line → IsUnread b fallible line
 unread_is b l fallible Memory is whole why = tt
 unread_is b l fallible Read is whole why = is ∙ why
-unread_is b l fallible (Damaged file at kept found) is whole why =
+unread_is b l fallible (Damaged d) is whole why =
     (why.0, false_from_ne_true b.sound (λ t. why.0 (why.1 ∙ sym (whole t) ∙ sym why.2)))
 unread_is b l fallible line is whole why = absurd why
 
 unread_line : (b : Between) (fallible : Bool) (line : Printed) → IsUnread b fallible line → is_numbered line ≡ false
 unread_line b fallible Memory is = refl
 unread_line b fallible Read is = refl
-unread_line b fallible (Damaged file at kept found) is = refl
+unread_line b fallible (Damaged d) is = refl
 unread_line b fallible line is = absurd is
 
 read_line_is : (b : Between) (l : Lent) (k : Kept) (line : Printed) → LoanIs b.sound (Some l) (Some k) → ReadsLoan l line

@@ -379,7 +379,7 @@ shows_line : (key : List ℕ) (l : Lent) (line : Printed) → ShowsPair key l li
 shows_line key l line (inl (value, is, bytes)) = ap is_numbered is
 shows_line key l Memory (inr why) = refl
 shows_line key l Read (inr why) = refl
-shows_line key l (Damaged file at kept found) (inr why) = refl
+shows_line key l (Damaged d) (inr why) = refl
 shows_line key l line (inr why) = absurd why
 
 open_some : (o : Option Slot) (s : Slot) → o ≡ Some s → is_some o ≡ true

@@ -143,7 +143,7 @@ pub record IsRefused (b : Between) (who : ℕ) (action : Action) (steps : List S
 abbrev pub IsUnread : Between → Bool → Printed → Type 0
 IsUnread b fallible Memory = Unit {0}
 IsUnread b fallible read_line = fallible ≡ true
-IsUnread b fallible (Damaged file at kept found) = (kept ≢ found) × (b.sound ≡ false)
+IsUnread b fallible (Damaged d) = (d.kept ≢ d.found) × (b.sound ≡ false)
 IsUnread b fallible line = ⊥
 
 -- The fold's next pair was given, and its value couldn't be read.

@@ -21,13 +21,13 @@ IsUnread l = l.rest ≡ l.size
 -- the line of a read that failed
 abbrev pub line_of_read : ReadError → Printed
 line_of_read read_failed = Read
-line_of_read (is_damaged at file kept found) = Damaged file at kept found
+line_of_read (is_damaged d) = Damaged d
 
 -- why a loan couldn't be read, where its view tells
 abbrev pub IsUnreadFor : Lent → Printed → Type 0
 IsUnreadFor l Memory = Unit {0}
 IsUnreadFor l Read = l.fallible ≡ true
-IsUnreadFor l (Damaged file at kept found) = (kept ≢ found) × (kept ≡ l.crc) × (found ≡ check_of l.left)
+IsUnreadFor l (Damaged d) = (d.kept ≢ d.found) × (d.kept ≡ l.crc) × (d.found ≡ check_of l.left)
 IsUnreadFor l line = ⊥
 
 -- the pair's line, or why its value couldn't be read

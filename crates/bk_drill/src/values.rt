@@ -40,16 +40,6 @@ fn line_of(error: ReadError) -> Printed
 {
     match error {
         ReadError::Read => Printed::Read,
-        ReadError::Damaged {
-            at,
-            file,
-            kept,
-            found,
-        } => Printed::Damaged {
-            file,
-            at,
-            kept,
-            found,
-        },
+        ReadError::Damaged(damage) => Printed::Damaged(damage),
     }
 }

@@ -19,7 +19,7 @@ use Rattle.bk_base.specs.declared.requests.Request.TheVariants.{Get, Put, Delete
 use Rattle.bk_base.specs.declared.requests.Request.TheVariants.{Stat, Quit}
 use Rattle.bk_base.specs.declared.statuses.SessionEnd.{SessionEnd}
 use Rattle.bk_base.specs.declared.statuses.SessionEnd.TheVariants.{Quit as quit_end, Sink}
-use Rattle.bk_base.specs.declared.statuses.SessionEnd.TheVariants.{Memory as memory_end}
+use Rattle.bk_base.specs.declared.statuses.SessionEnd.TheVariants.{Memory as memory_end, Disk as disk_end}
 use Rattle.bk_exchange.specs.Points.{AtOne, Event, Point, events, next_point, own, point_after}
 use Rattle.bk_exchange.specs.Listings.{Row, row_lines}
 use Rattle.bk_exchange.specs.Answers.{Context, ShowsDelete, ShowsGet, ShowsPut, ShowsSync}
@@ -209,6 +209,7 @@ last_faults c p end None is = omega arith
 last_faults c p quit_end (Some x) is = either_faults c p x (inl is)
 last_faults c p Sink (Some x) is = either_faults c p x is
 last_faults c p memory_end (Some x) is = either_faults c p x is
+last_faults c p disk_end (Some x) is = either_faults c p x is
 last_faults c p end (Some x) is = absurd is
 
 pub session_faults : (c : Context) (p : Point) (end : SessionEnd) (t : Transcript)

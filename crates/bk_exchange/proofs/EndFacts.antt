@@ -17,7 +17,7 @@ use Rattle.bk_base.specs.declared.requests.Request.TheVariants.{Stat, Quit}
 use Rattle.bk_base.specs.declared.statuses.SessionEnd.{SessionEnd}
 use Rattle.bk_base.specs.declared.statuses.SessionEnd.TheVariants.{Quit as quit_end}
 use Rattle.bk_base.specs.declared.statuses.SessionEnd.TheVariants.{End as input_end, Syntax, Source}
-use Rattle.bk_base.specs.declared.statuses.SessionEnd.TheVariants.{Sink, Long, Memory}
+use Rattle.bk_base.specs.declared.statuses.SessionEnd.TheVariants.{Sink, Long, Memory, Disk as disk_end}
 use Rattle.bk_laws.specs.Wire.{IsBad, IsPartial, StandsIn, request_text}
 use Rattle.bk_exchange.specs.Points.{Event, Point, events}
 use Rattle.bk_exchange.specs.Listings.{Row, row_lines}
@@ -184,3 +184,4 @@ at_limit most Source requests input left part r is cut all =
 at_limit most Sink requests input left part r is cut all = refl
 at_limit most Long requests input left part r is cut all = refl
 at_limit most Memory requests input left part r is cut all = refl
+at_limit most disk_end requests input left part r is cut all = refl

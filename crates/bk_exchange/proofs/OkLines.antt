@@ -16,7 +16,7 @@ use Rattle.bk_base.specs.declared.requests.Request.{Request}
 use Rattle.bk_base.specs.declared.requests.Request.TheVariants.{Get, Put, Delete, Fold, Keys, Sync}
 use Rattle.bk_base.specs.declared.requests.Request.TheVariants.{Stat, Quit}
 use Rattle.bk_base.specs.declared.statuses.SessionEnd.{SessionEnd}
-use Rattle.bk_base.specs.declared.statuses.SessionEnd.TheVariants.{Quit as quit_end, Sink, Memory}
+use Rattle.bk_base.specs.declared.statuses.SessionEnd.TheVariants.{Quit as quit_end, Sink, Memory, Disk}
 use Rattle.bk_base.specs.declared.writes.Body.TheVariants.{Put as put_body, Gone}
 use Rattle.bk_base.specs.declared.writes.Write.{Write}
 use Rattle.bk_exchange.specs.Points.{Event, Point, Said, events, point_after}
@@ -168,6 +168,7 @@ last_tells c p end None is = refl
 last_tells c p quit_end (Some x) is = one_tells c p x (inl is)
 last_tells c p Sink (Some x) is = one_tells c p x is
 last_tells c p Memory (Some x) is = one_tells c p x is
+last_tells c p Disk (Some x) is = one_tells c p x is
 last_tells c p end (Some x) is = absurd is
 
 pub session_tells : (c : Context) (p : Point) (end : SessionEnd) (t : Transcript)

@@ -65,7 +65,7 @@ abbrev pub Cause : Context → Request → Reply → List Event → Type 0
 Cause c request Memory es = Unit {0}
 Cause c request Disk es = AtOne (λ (e : Event). 1 ≤ e.step.faults) (own c.who es)
 Cause c request Read es = AtOne (λ (e : Event). 1 ≤ e.step.views) (own c.who es)
-Cause c request (Damaged file at kept found) es = (kept ≢ found) × (c.opening.whole ≡ false)
+Cause c request (Damaged d) es = (d.kept ≢ d.found) × (c.opening.whole ≡ false)
 Cause c request (full_line full) es = FullCause c request full (own c.who es)
 Cause c request line es = ⊥
 
@@ -74,7 +74,7 @@ abbrev pub is_refusal : Reply → Bool
 is_refusal Memory = true
 is_refusal Disk = true
 is_refusal Read = true
-is_refusal (Damaged file at kept found) = true
+is_refusal (Damaged d) = true
 is_refusal (full_line full) = true
 is_refusal line = false
 
@@ -125,7 +125,7 @@ pub record Refuses (c : Context) (request : Request) (es : List Event) (replies 
 
 abbrev pub may_spoil : Reply → Bool
 may_spoil Read = true
-may_spoil (Damaged file at kept found) = true
+may_spoil (Damaged d) = true
 may_spoil Memory = true
 may_spoil line = false
 
@@ -144,7 +144,7 @@ pub record Spoils (c : Context) (key : List ℕ) (now : Moment) (es : List Event
 abbrev pub may_drop : Request → Reply → ℕ → Bool
 may_drop request Disk n = n == 0
 may_drop Fold Read n = n == 1
-may_drop Fold (Damaged file at kept found) n = n == 1
+may_drop Fold (Damaged d) n = n == 1
 may_drop request Memory n = nat_le n 1
 may_drop request (full_line full_turns) n = nat_le n 1
 may_drop request line n = false

@@ -5,7 +5,7 @@ use Rattle.bk_base.specs.declared.histories.Step.{Step}
 use Rattle.bk_base.specs.declared.numbers.Moment.{Moment}
 use Rattle.bk_base.specs.declared.requests.Reply.TheVariants.{Syntax as syntax_line}
 use Rattle.bk_base.specs.declared.statuses.SessionEnd.{SessionEnd}
-use Rattle.bk_base.specs.declared.statuses.SessionEnd.TheVariants.{Quit, End, Syntax, Source, Sink, Long, Memory}
+use Rattle.bk_base.specs.declared.statuses.SessionEnd.TheVariants.{Quit, End, Syntax, Source, Sink, Long, Memory, Disk}
 use Rattle.bk_laws.specs.Wire.{reply_text, NoneStands, IsPartial, IsBad}
 use Rattle.bk_exchange.specs.Points.{Point, point_after, point_of}
 use Rattle.bk_exchange.specs.Answers.{Context}
@@ -34,12 +34,13 @@ AreServed c p (x ∷ xs) = IsExchange c p x × (is_quit x.request ≡ false) × 
 abbrev pub IsQuit : Context → Point → Exchange → Type 0
 IsQuit c p x = (is_quit x.request ≡ true) × IsExchange c p x
 
--- A session ends between two requests, but with QUIT. Within one it ends by the sink or for memory.
+-- A session ends between two requests, but with QUIT. Within one it ends by the sink, for memory, or by the disk.
 abbrev pub IsLast : Context → Point → SessionEnd → Option Exchange → Type 0
 IsLast c p Quit (Some x) = IsQuit c p x
 IsLast c p Quit None = ⊥
 IsLast c p Sink (Some x) = IsQuit c p x ⊎ IsCut c p x
 IsLast c p Memory (Some x) = IsQuit c p x ⊎ IsCut c p x
+IsLast c p Disk (Some x) = IsQuit c p x ⊎ IsCut c p x
 IsLast c p end (Some x) = ⊥
 IsLast c p end None = Unit {0}
 
@@ -106,10 +107,11 @@ pub record SyntaxIsDue (tells : Telling) (most : ℕ) (t : Traffic) (between : B
   pub seen : IsTrue tells.source → (part : List ℕ) × (t.input ≡ (requests ++ part) ++ t.left)
       × IsSyntax most (length requests) part t.left
 
--- All replies were written; where memory or the sink ended the session, at least a first part.
+-- All replies were written; where memory, the sink or the disk ended the session, at least a first part.
 abbrev pub Writes : Telling → ℕ → SessionEnd → Traffic → Bool → List ℕ → List ℕ → Type 0
 Writes tells most (Syntax at) t between requests replies = t.output ≡ replies ++ syntax_text at
 Writes tells most Memory t between requests replies = IsStart t.output replies
+Writes tells most Disk t between requests replies = IsStart t.output replies
 Writes tells most Sink t between requests replies =
     IsStart t.output replies
     ⊎ (SyntaxIsDue tells most t between requests × IsStart t.output (replies ++ syntax_text (length requests)))
@@ -161,5 +163,6 @@ abbrev pub ends_at_limit : SessionEnd → Bool
 ends_at_limit Quit = true
 ends_at_limit Sink = true
 ends_at_limit Memory = true
+ends_at_limit Disk = true
 ends_at_limit Long = true
 ends_at_limit end = false

@@ -6,6 +6,7 @@ use Rattle.bk_base.specs.declared.names.Kind.TheVariants.{Main}
 use Rattle.bk_base.specs.declared.rows.Row.{Row}
 use Rattle.bk_disk.specs.Told.{Told, Image, at, bytes_of, IsAbsent, IsOurs}
 use Rattle.bk_disk.specs.Calls.{Cut, Made, Synced, fresh}
+use Rattle.bk_disk.specs.Shown.{DiskShown}
 use Rattle.bk_files.specs.declared.catalog.Active.{Active}
 use Rattle.bk_files.specs.declared.catalog.Catalog.{Catalog}
 use Rattle.bk_files.specs.Catalog.{Known, due_of, id_of, len_of, main, mended, torn_of}
@@ -21,6 +22,10 @@ pub record Seen : Type 0 where
   -- how many bytes may be appended to the active file before the next `ready`
   pub room : ℕ
   pub catalog : Known
+
+-- the disk alone
+abbrev pub disk_shown : Seen → DiskShown
+disk_shown s = record { told = s.told; faults = s.faults; views = s.fallible_views; outs = s.fallible_outs }
 
 -- the catalog, as callers see it
 abbrev pub known_of : Catalog → Known

@@ -6,7 +6,7 @@ ghost use Rattle.bk_disk.specs.Told.{IsAbsent, IsWithin, range_of};
 ghost use Rattle.bk_base.specs.declared.names.Name.{Name};
 ghost use Rattle.bk_files.specs.Catalog.{Begins, Grows, counted, main, row_of, torn};
 ghost use Rattle.bk_files.specs.Rows.{AreAtRest, IsRecord};
-ghost use Rattle.bk_files.specs.Files.{HalfRepaired, HalfRolled, IsConsistent, IsFromScratch, IsSyncedIfSealed, Repaired, Rolled, Settles, Synchronized, active_id, active_len, active_name, has_active, image_of, is_due, known_of, is_torn, last_of, rows_of};
+ghost use Rattle.bk_files.specs.Files.{HalfRepaired, HalfRolled, IsConsistent, IsFromScratch, IsSyncedIfSealed, Repaired, Rolled, Settles, Synchronized, active_id, active_len, active_name, disk_shown, has_active, image_of, is_due, known_of, is_torn, last_of, rows_of};
 
 use crate::catalog::{Catalog, name_of};
 use crate::errors::RollError;
@@ -30,10 +30,10 @@ impl<D: Disk> Model for Files<D> {
     ghost Value = { Seen };
 
     ghost view = { λ f. record {
-      told = D.told f.disk;
-      faults = D.faults f.disk;
-      fallible_views = D.fallible_views f.disk;
-      fallible_outs = D.fallible_outs f.disk;
+      told = (D.shown f.disk).told;
+      faults = (D.shown f.disk).faults;
+      fallible_views = (D.shown f.disk).views;
+      fallible_outs = (D.shown f.disk).outs;
       room = D.room f.disk (name_of f.catalog.active);
       catalog = known_of f.catalog;
     } };
@@ -43,14 +43,11 @@ impl<D: Disk> Files<D> {
     /// The files of a disk, none of them active. The rows stand in order of id up to `last`; each
     /// file has the length that its row says.
     pub fn new(disk: D, rows: Vec<Row>, last: FileId, max_file: u32) -> Files<D>
-        requires free { IsTrue D.tells → (n : Name) → last.0 < n.id → IsAbsent n (D.told disk).image }
-        requires rows { IsTrue D.tells → AreAtRest 1 (last.0 + 1) rows.items (D.told disk) }
+        requires free { IsTrue D.tells → (n : Name) → last.0 < n.id → IsAbsent n (D.shown disk).told.image }
+        requires rows { IsTrue D.tells → AreAtRest 1 (last.0 + 1) rows.items (D.shown disk).told }
         ensures catalog { result.catalog
             ≡ record { rows = rows.items; active = None; last = last.0; max_file = max_file } }
-        ensures told { result.told ≡ D.told disk }
-        ensures faults { result.faults ≡ D.faults disk }
-        ensures views { result.fallible_views ≡ D.fallible_views disk }
-        ensures outs { result.fallible_outs ≡ D.fallible_outs disk }
+        ensures shown { disk_shown result ≡ D.shown disk }
         ensures consistent { IsTrue D.tells → IsConsistent result }
     {
         Files {
@@ -66,10 +63,7 @@ impl<D: Disk> Files<D> {
 
     /// The disk, and what is known of its files.
     pub fn into_parts(self) -> (D, Catalog)
-        ensures told { D.told result.0 ≡ self.told }
-        ensures faults { D.faults result.0 ≡ self.faults }
-        ensures views { D.fallible_views result.0 ≡ self.fallible_views }
-        ensures outs { D.fallible_outs result.0 ≡ self.fallible_outs }
+        ensures shown { D.shown result.0 ≡ disk_shown self }
         ensures catalog { known_of result.1 ≡ self.catalog }
     {
         let Files { disk, catalog } = self;
@@ -78,10 +72,7 @@ impl<D: Disk> Files<D> {
 
     /// The files of a disk, of which this is known.
     pub fn from_parts(disk: D, catalog: Catalog) -> Files<D>
-        ensures told { result.told ≡ D.told disk }
-        ensures faults { result.faults ≡ D.faults disk }
-        ensures views { result.fallible_views ≡ D.fallible_views disk }
-        ensures outs { result.fallible_outs ≡ D.fallible_outs disk }
+        ensures shown { disk_shown result ≡ D.shown disk }
         ensures catalog { result.catalog ≡ known_of catalog }
     {
         Files { disk, catalog }
@@ -313,10 +304,7 @@ impl<D: Disk> Files<D> {
 
     /// The disk.
     pub fn into_disk(self) -> D
-        ensures told { D.told result ≡ self.told }
-        ensures faults { D.faults result ≡ self.faults }
-        ensures views { D.fallible_views result ≡ self.fallible_views }
-        ensures outs { D.fallible_outs result ≡ self.fallible_outs }
+        ensures shown { D.shown result ≡ disk_shown self }
         ensures room { D.room result (active_name self) ≡ self.room }
     {
         let Files { disk, catalog: _ } = self;

@@ -50,7 +50,7 @@ stat_one : reply_text (Stat 1 1 24 24) ≡ codes "STAT 1 1 24 24\n"
 unfolding reply_text digits
 stat_one = refl
 
-damaged : reply_text (Damaged (record { 0 = 3 }) 24 2952020930 17) ≡ codes "DAMAGED 3 24 aff443c2 00000011\n"
+damaged : reply_text (Damaged (record { at = 24; file = record { 0 = 3 }; kept = 2952020930; found = 17 })) ≡ codes "DAMAGED 3 24 aff443c2 00000011\n"
 unfolding reply_text hex_of digits
 damaged = refl
 

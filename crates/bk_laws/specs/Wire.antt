@@ -67,8 +67,8 @@ reply_text Bye = line (codes "BYE")
 reply_text Memory = line (codes "MEMORY")
 reply_text Disk = line (codes "DISK")
 reply_text Read = line (codes "READ")
-reply_text (Damaged file at kept found) =
-    line (and_hex (and_hex (and_number (numbered (codes "DAMAGED ") file.0) at) kept) found)
+reply_text (Damaged d) =
+    line (and_hex (and_hex (and_number (numbered (codes "DAMAGED ") d.file.0) d.at) d.kept) d.found)
 reply_text (Cut file total at) = line (and_number (and_number (numbered (codes "CUT ") file.0) total) at)
 reply_text (full_reply full) = line (codes "FULL " ++ full_word full)
 reply_text (Syntax offset) = line (numbered (codes "SYNTAX ") offset)
@@ -103,7 +103,7 @@ FitsReply (Held n) = n < 2 ^ 32
 FitsReply (Job id) = id.0 < 2 ^ 32
 FitsReply (stat_reply keys files total live) =
     (keys < 2 ^ 64) × (files < 2 ^ 64) × (total < 2 ^ 128) × (live < 2 ^ 128)
-FitsReply (Damaged file at kept found) = (file.0 < 2 ^ 32) × (at < 2 ^ 64) × (kept < 2 ^ 32) × (found < 2 ^ 32)
+FitsReply (Damaged d) = (d.file.0 < 2 ^ 32) × (d.at < 2 ^ 64) × (d.kept < 2 ^ 32) × (d.found < 2 ^ 32)
 FitsReply (Cut file total at) = (file.0 < 2 ^ 32) × (total < 2 ^ 64) × (at < 2 ^ 64)
 FitsReply (Syntax offset) = offset < 2 ^ 64
 FitsReply reply = Unit {0}

@@ -112,7 +112,7 @@ module _ (known : Bool) (v u : Shown) (key : List ℕ) (now : Moment) (same : u 
         (drop l.value_at l.left, found_with (drop l.value_at l.left) (λ tell. refl) b slot given behind steps listed, rest)
     shows_unread sees sink Read out new hears other unread rest whole b slot given behind steps listed =
         (drop l.value_at l.left, found_with (drop l.value_at l.left) (λ tell. refl) b slot given behind steps listed, rest)
-    shows_unread sees sink (is_damaged file at kept found) out new hears other unread rest whole b slot given behind steps listed = (
+    shows_unread sees sink (is_damaged damage) out new hears other unread rest whole b slot given behind steps listed = (
       drop l.value_at l.left,
       found_with (drop l.value_at l.left) (λ tell. refl) b slot given behind steps listed,
       (
@@ -216,14 +216,14 @@ module _ (known tells sees sink : Bool) (sub : IsTrue known → IsTrue tells) (h
     where
       other : r ≡ Err Read → r ≡ Err sink_failed → ⊥
       other a b = cc
-  not_shown r (is_damaged file at kept found) out new is stopped unread rest =
+  not_shown r (is_damaged damage) out new is stopped unread rest =
       let k = found_known known tells key now v u l sub f in
       shows_unread known v u key now k.same k.catalog k.later k.outs l k.views k.unmoved k.keeps sees sink
-      (is_damaged file at kept found) out new
+      (is_damaged damage) out new
       (λ tell. hears (sub tell)) (λ never. cc never) unread (rest (λ never. other is never))
       (λ tell b steps follows. k.whole tell b.opening (b.before ++ steps) b.tried (follows.stands tell))
     where
-      other : r ≡ Err (is_damaged file at kept found) → r ≡ Err sink_failed → ⊥
+      other : r ≡ Err (is_damaged damage) → r ≡ Err sink_failed → ⊥
       other a b = cc
 
 pub none_shown : (known tells sink : Bool) (sub : IsTrue known → IsTrue tells) (key : List ℕ) (now : Moment) (v u : Shown)

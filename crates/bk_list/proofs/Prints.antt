@@ -7,7 +7,7 @@ use Rattle.std.specs.List.{flat_map}
 use Rattle.std.proofs.lemmas.List.{append-nil, append_assoc, length-append, map-append, take-append-drop, take_more}
 use Rattle.std.proofs.lemmas.List.Concat.{flat_map-append}
 use Rattle.bk_base.specs.declared.histories.Step.{Step}
-use Rattle.bk_base.specs.declared.numbers.FileId.{FileId}
+use Rattle.bk_base.specs.declared.damages.Damage.{Damage}
 use Rattle.bk_base.specs.declared.numbers.Moment.{Moment}
 use Rattle.bk_base.specs.declared.requests.Reply.TheVariants.{Damaged as damaged_line, End, Pair}
 use Rattle.bk_base.specs.declared.requests.Request.TheVariants.{Fold}
@@ -199,19 +199,16 @@ module _ (known sink : Bool) (before : List ℕ) (first last : List Row) (few : 
   ends_located locate_disk result writes = ends_disk result writes
   ends_located locate_memory result writes = ends_memory result writes
 
-  module _ (file : FileId) (at kept found : ℕ) (differs : kept ≢ found) (unknown : known ≡ false) where
+  module _ (damage : Damage) (differs : damage.kept ≢ damage.found) (unknown : known ≡ false) where
     pub ends_damaged : (result : ListEnd)
-        → WritesLine Damaged result sink out.written now out.gathered (reply_text (damaged_line file at kept found)) → Ends result
+        → WritesLine Damaged result sink out.written now out.gathered (reply_text (damaged_line damage)) → Ends result
     ends_damaged result (inl (inl (is, wrote))) = subst Ends (sym is) (record {
       prints = λ tell others. (
-        rows_text Fold first ++ reply_text (damaged_line file at kept found),
-        all_out before (rows_text Fold first) (reply_text (damaged_line file at kept found)) out now (sent tell) (wrote tell),
+        rows_text Fold first ++ reply_text (damaged_line damage),
+        all_out before (rows_text Fold first) (reply_text (damaged_line damage)) out now (sent tell) (wrote tell),
         record {
           unknown = unknown;
-          file = file;
-          at = at;
-          kept = kept;
-          found = found;
+          damage = damage;
           differs = differs;
           breaks = record { first = first; last = last; few = few; are = refl; is = refl };
         },
@@ -221,18 +218,15 @@ module _ (known sink : Bool) (before : List ℕ) (first last : List Row) (few : 
     })
     ends_damaged result (inl (inr (is, left))) = subst Ends (sym is) (record {
       prints = λ tell others.
-          let part = part_out before (rows_text Fold first) (reply_text (damaged_line file at kept found)) out now (sent tell)
+          let part = part_out before (rows_text Fold first) (reply_text (damaged_line damage)) out now (sent tell)
           (left tell) in (
             part.output,
             part.wrote,
             inr (
-              rows_text Fold first ++ reply_text (damaged_line file at kept found),
+              rows_text Fold first ++ reply_text (damaged_line damage),
               record {
                 unknown = unknown;
-                file = file;
-                at = at;
-                kept = kept;
-                found = found;
+                damage = damage;
                 differs = differs;
                 breaks = record { first = first; last = last; few = few; are = refl; is = refl };
               },
@@ -272,9 +266,9 @@ ends_unsent known sink before first key value out new sent now no_memory result 
 ends_unsent known sink before first key value out new sent now Read result unsent breaks =
     ends_disk known sink before first (row_if key (Some value)) one_row out sent now result
     (subst (λ (o : Outgoing). WritesAll Disk result sink o.written now o.gathered) unsent breaks)
-ends_unsent known sink before first key value out new sent now (is_damaged file at kept found) result unsent breaks =
-    ends_damaged known sink before first (row_if key (Some value)) one_row out sent now file at kept found unsent.1 unsent.2 result
-    (subst (λ (o : Outgoing). WritesLine Damaged result sink o.written now o.gathered (reply_text (damaged_line file at kept found)))
+ends_unsent known sink before first key value out new sent now (is_damaged damage) result unsent breaks =
+    ends_damaged known sink before first (row_if key (Some value)) one_row out sent now damage unsent.1 unsent.2 result
+    (subst (λ (o : Outgoing). WritesLine Damaged result sink o.written now o.gathered (reply_text (damaged_line damage)))
     unsent.0 breaks)
 
 -- ---- the keys that were got

@@ -38,5 +38,5 @@ abbrev pub Breaks : Unread → ListEnd → Bool → List ℕ → List ℕ → Li
 Breaks sink_failed result tells before now gathered = (result ≡ Sink) × (now ≡ before)
 Breaks no_memory result tells before now gathered = WritesAll Memory result tells before now gathered
 Breaks Read result tells before now gathered = WritesAll Disk result tells before now gathered
-Breaks (is_damaged file at kept found) result tells before now gathered =
-    WritesLine Damaged result tells before now gathered (reply_text (damaged_line file at kept found))
+Breaks (is_damaged d) result tells before now gathered =
+    WritesLine Damaged result tells before now gathered (reply_text (damaged_line d))

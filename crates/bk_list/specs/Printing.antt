@@ -5,7 +5,7 @@ use Rattle.std.specs.List.{flat_map}
 use Rattle.bk_base.specs.declared.calls.Answer.{Answer}
 use Rattle.bk_base.specs.declared.calls.Answer.TheVariants.{Found, Nothing}
 use Rattle.bk_base.specs.declared.calls.Call.TheVariants.{Get}
-use Rattle.bk_base.specs.declared.numbers.FileId.{FileId}
+use Rattle.bk_base.specs.declared.damages.Damage.{Damage}
 use Rattle.bk_base.specs.declared.numbers.Moment.{Moment}
 use Rattle.bk_base.specs.declared.requests.Reply.TheVariants.{Damaged as damaged_line, End}
 use Rattle.bk_base.specs.declared.requests.Request.TheVariants.{Fold}
@@ -65,12 +65,9 @@ pub record BreaksOff (rows : List Row) (behind text : List ℕ) : Type 0 where
 -- the same, and the line of a record whose checksum isn't the one that was kept
 pub record IsDamaged (known : Bool) (rows : List Row) (text : List ℕ) : Type 0 where
   pub unknown : known ≡ false
-  pub file : FileId
-  pub at : ℕ
-  pub kept : ℕ
-  pub found : ℕ
-  pub differs : kept ≢ found
-  pub breaks : BreaksOff rows (reply_text (damaged_line file at kept found)) text
+  pub damage : Damage
+  pub differs : damage.kept ≢ damage.found
+  pub breaks : BreaksOff rows (reply_text (damaged_line damage)) text
 
 -- What is printed of the rows that were got, with others that weren't asked for, by how the listing ends. The row that
 -- was got last may be missing. Only a sink that fails leaves a part of a line.

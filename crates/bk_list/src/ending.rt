@@ -30,18 +30,8 @@ pub(crate) fn break_off<K: Sink>(sink: &mut K, outbox: Outbox, why: Unread) -> L
         Unread::Sink => ListEnd::Sink,
         Unread::Memory => end_as(sink, outbox, ListEnd::Memory),
         Unread::Read => end_as(sink, outbox, ListEnd::Disk),
-        Unread::Damaged {
-            file,
-            at,
-            kept,
-            found,
-        } => {
-            let line = Reply::Damaged {
-                file,
-                at,
-                kept,
-                found,
-            };
+        Unread::Damaged(damage) => {
+            let line = Reply::Damaged(damage);
             end_with(sink, outbox, &line, ListEnd::Damaged)
         }
     }

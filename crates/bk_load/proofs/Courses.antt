@@ -2,12 +2,13 @@
 use Rattle.std.proofs.Common.{◌≡◌, ◌⊎◌, ℕ, ◌≤◌, Bool, true, false, Result, Ok, Err, refl, sym, subst, ◌∙◌, arith}
 use Rattle.std.specs.Prelude.{IfOk, IsErrAnd, IsErrOf, IsTrue, OnErr, OnOk}
 use Rattle.bk_disk.specs.Causes.{HasCause, Rose, bumped, most}
+use Rattle.bk_disk.specs.Shown.{DiskShown}
 use Rattle.bk_disk.specs.declared.errors.DiskError.{DiskError}
 use Rattle.bk_disk.specs.declared.errors.DiskError.TheVariants.{Failed as failed, Memory as memory}
 use Rattle.bk_disk.specs.Told.{Told}
 use Rattle.bk_load.specs.declared.errors.OpenError.{OpenError}
 use Rattle.bk_load.specs.declared.errors.OpenError.TheVariants.{Disk, Read, Memory as open_memory}
-use Rattle.bk_load.specs.Courses.{Came, Course, Seen}
+use Rattle.bk_load.specs.Courses.{Came, Course}
 use Rattle.bk_load.specs.Errors.{opened, scan_error_of}
 use Rattle.bk_files.specs.Scan.{HasReadCause}
 use Rattle.bk_files.specs.declared.scan.ScanError.{ScanError}
@@ -16,10 +17,10 @@ use Rattle.bk_load.specs.Tidying.{Goes}
 use Rattle.bk_load.proofs.Going.{goes_or, goes_refl, goes_trans}
 use Rattle.bk_store.proofs.AppendExits.{rose_since}
 
-pub came_refl : (tells : Bool) (a : Seen) → Came tells a a
+pub came_refl : (tells : Bool) (a : DiskShown) → Came tells a a
 came_refl tells a = record { faults = omega arith; views = omega arith; outs = refl; goes = λ told. goes_refl a.told }
 
-pub came_trans : (tells : Bool) (a b c : Seen) → Came tells a b → Came tells b c → Came tells a c
+pub came_trans : (tells : Bool) (a b c : DiskShown) → Came tells a b → Came tells b c → Came tells a c
 came_trans tells a b c p q = record {
   faults = let x = p.faults in let y = q.faults in omega (arith, x, y);
   views = let x = p.views in let y = q.views in omega (arith, x, y);
@@ -28,7 +29,7 @@ came_trans tells a b c p q = record {
 }
 
 -- after calls that came to b, one that went on with this result
-pub course_after : {T : Type 0} (tells : Bool) (a b c : Seen) (result : Result T OpenError) → Came tells a b
+pub course_after : {T : Type 0} (tells : Bool) (a b c : DiskShown) (result : Result T OpenError) → Came tells a b
     → Course tells b c result → Course tells a c result
 course_after tells a b c result p q = record {
   came = came_trans tells a b c p q.came;
@@ -37,17 +38,17 @@ course_after tells a b c result p q = record {
 }
 
 -- the same refusal is given on, or another answer that names no more causes
-pub course_on : {T U : Type 0} (tells : Bool) (a b : Seen) (r : Result T OpenError) (s : Result U OpenError)
+pub course_on : {T U : Type 0} (tells : Bool) (a b : DiskShown) (r : Result T OpenError) (s : Result U OpenError)
     → Course tells a b r → (IsErrOf s Disk → IsErrOf r Disk) → (IsErrOf s Read → IsErrOf r Read) → Course tells a b s
 course_on tells a b r s c disk read =
     record { came = c.came; disk = λ is. c.disk (disk is); read = λ is. c.read (read is) }
 
 -- no call was refused
-pub course_ok : {T : Type 0} (tells : Bool) (a b : Seen) (x : T) → Came tells a b → Course tells a b (Ok x)
+pub course_ok : {T : Type 0} (tells : Bool) (a b : DiskShown) (x : T) → Came tells a b → Course tells a b (Ok x)
 course_ok tells a b x c = record { came = c; disk = λ is. absurd (cc is); read = λ is. absurd (cc is) }
 
 -- memory was refused
-pub course_memory : {T : Type 0} (tells : Bool) (a b : Seen) (r : Result T OpenError) → Came tells a b
+pub course_memory : {T : Type 0} (tells : Bool) (a b : DiskShown) (r : Result T OpenError) → Came tells a b
     → IsErrAnd r (λ e. e ≡ open_memory) → Course tells a b r
 course_memory tells a b (Ok x) c is = absurd is
 course_memory {T} tells a b (Err e) c is =
@@ -55,7 +56,7 @@ course_memory {T} tells a b (Err e) c is =
     (record { came = c; disk = λ e. absurd (cc e); read = λ e. absurd (cc e) })
 
 -- a call of the disk gave the cause
-pub course_opened : {T : Type 0} (tells : Bool) (a b : Seen) (r : Result T DiskError) → HasCause a.faults b.faults r
+pub course_opened : {T : Type 0} (tells : Bool) (a b : DiskShown) (r : Result T DiskError) → HasCause a.faults b.faults r
     → b.views ≡ a.views → b.outs ≡ a.outs → (IsTrue tells → Goes a.told b.told) → Course tells a b (opened r)
 course_opened tells a b r cause views outs goes = record {
   came = record { faults = cause.later; views = omega (arith, views); outs = outs; goes = goes };
@@ -84,7 +85,7 @@ result_goes (Ok x) t u Done done ok err = done ok
 result_goes (Err e) t u Done done ok err = goes_or t u Done done err
 
 -- a view was asked for
-pub course_viewed : {T : Type 0} (tells : Bool) (a b : Seen) (r : Result T DiskError) → HasCause a.faults b.faults r
+pub course_viewed : {T : Type 0} (tells : Bool) (a b : DiskShown) (r : Result T DiskError) → HasCause a.faults b.faults r
     → a.views ≤ b.views → b.outs ≡ a.outs → (IsTrue tells → Goes a.told b.told) → Course tells a b (opened r)
 course_viewed tells a b r cause views outs goes = record {
   came = record { faults = cause.later; views = views; outs = outs; goes = goes };
@@ -102,7 +103,7 @@ course_viewed tells a b r cause views outs goes = record {
   not_read (Err memory) is = cc is
 
 -- what was read through a view that the disk made
-pub course_read : {T : Type 0} (tells : Bool) (a b : Seen) (fallible : Bool) (r : Result T OpenError) → Came tells a b
+pub course_read : {T : Type 0} (tells : Bool) (a b : DiskShown) (fallible : Bool) (r : Result T OpenError) → Came tells a b
     → b.views ≡ bumped fallible a.views → (IsErrOf r Read → fallible ≡ true) → (IsErrOf r Disk → ⊥) → Course tells a b r
 course_read tells a b fallible r came views read disk = record {
   came = came;

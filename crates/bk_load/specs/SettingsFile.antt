@@ -3,11 +3,11 @@ use Rattle.std.specs.Prelude.{◌≡◌, ℕ, ◌≤◌, List, Option, None, Som
 use Rattle.bk_base.specs.declared.names.Name.{Name}
 use Rattle.bk_base.specs.declared.names.Kind.TheVariants.{Settings as settings_kind}
 use Rattle.bk_disk.specs.Causes.{Rose}
+use Rattle.bk_disk.specs.Shown.{DiskShown}
 use Rattle.bk_policy.specs.Reading.{IsSettingsError, Says}
 use Rattle.bk_policy.specs.Settings.{defaults}
 use Rattle.bk_policy.specs.declared.errors.SettingsError.TheVariants.{Memory as text_memory}
 use Rattle.bk_policy.specs.declared.settings.Settings.{Settings}
-use Rattle.bk_load.specs.Courses.{Seen}
 use Rattle.bk_load.specs.declared.errors.LoadSettings.{LoadSettings}
 use Rattle.bk_load.specs.declared.errors.LoadSettings.TheVariants.{Bad, Disk, Read, Memory}
 
@@ -37,7 +37,7 @@ IsOfText Read = Unit {0} → ⊥
 
 -- No count falls. `Disk` comes only where the disk's count of faults rose, `Read` only where that of the
 -- fallible views did.
-pub record Loads (was now : Seen) (result : Result Settings LoadSettings) : Type 0 where
+pub record Loads (was now : DiskShown) (result : Result Settings LoadSettings) : Type 0 where
   pub faults : was.faults ≤ now.faults
   pub views : was.views ≤ now.views
   pub outs : now.outs ≡ was.outs

@@ -32,38 +32,29 @@ fn opened<T>(given: Result<T, DiskError>) -> Result<T, OpenError>
 
 /// All files with their lengths.
 pub(crate) fn list_files<D: Disk>(disk: &mut D) -> Result<Vec<Listed>, OpenError>
-    ensures course { Course D.tells
-        (record { told = D.told disk.old; faults = D.faults disk.old; views = D.fallible_views disk.old; outs = D.fallible_outs disk.old })
-        (record { told = D.told disk.new; faults = D.faults disk.new; views = D.fallible_views disk.new; outs = D.fallible_outs disk.new })
-        result }
-    ensures files { IsTrue D.tells → IfOk result (λ files. files.items ≡ listing (D.told disk.old).image) }
-    ensures told { IsTrue D.tells → D.told disk.new ≡ D.told disk.old }
+    ensures course { Course D.tells (D.shown disk.old) (D.shown disk.new) result }
+    ensures files { IsTrue D.tells → IfOk result (λ files. files.items ≡ listing (D.shown disk.old).told.image) }
+    ensures told { IsTrue D.tells → (D.shown disk.new).told ≡ (D.shown disk.old).told }
 {
     opened(disk.list())
 }
 
 /// Removes a file that doesn't count, if it is there.
 pub(crate) fn remove_file<D: Disk>(disk: &mut D, name: Name) -> Result<(), OpenError>
-    requires { IsTrue D.tells → MayGo name (at (D.told disk.old).image) }
-    ensures course { Course D.tells
-        (record { told = D.told disk.old; faults = D.faults disk.old; views = D.fallible_views disk.old; outs = D.fallible_outs disk.old })
-        (record { told = D.told disk.new; faults = D.faults disk.new; views = D.fallible_views disk.new; outs = D.fallible_outs disk.new })
-        result }
+    requires { IsTrue D.tells → MayGo name (at (D.shown disk.old).told.image) }
+    ensures course { Course D.tells (D.shown disk.old) (D.shown disk.new) result }
     ensures gone { IsTrue D.tells → OnOk result
-        (LacksOnly name (at (D.told disk.old).image) (at (D.told disk.new).image)) }
+        (LacksOnly name (at (D.shown disk.old).told.image) (at (D.shown disk.new).told.image)) }
 {
     opened(disk.remove(name))
 }
 
 /// Gives the data file its own name, where it has its temporary one.
 pub(crate) fn rename_data<D: Disk>(disk: &mut D, file: FileId) -> Result<(), OpenError>
-    requires { IsTrue D.tells → MayTakeName file.0 (at (D.told disk.old).image) }
-    ensures course { Course D.tells
-        (record { told = D.told disk.old; faults = D.faults disk.old; views = D.fallible_views disk.old; outs = D.fallible_outs disk.old })
-        (record { told = D.told disk.new; faults = D.faults disk.new; views = D.fallible_views disk.new; outs = D.fallible_outs disk.new })
-        result }
+    requires { IsTrue D.tells → MayTakeName file.0 (at (D.shown disk.old).told.image) }
+    ensures course { Course D.tells (D.shown disk.old) (D.shown disk.new) result }
     ensures named { IsTrue D.tells → OnOk result
-        (HasTakenName file.0 (at (D.told disk.old).image) (at (D.told disk.new).image)) }
+        (HasTakenName file.0 (at (D.shown disk.old).told.image) (at (D.shown disk.new).told.image)) }
 {
     let from = Name {
         id: file.0,
@@ -78,14 +69,11 @@ pub(crate) fn rename_data<D: Disk>(disk: &mut D, file: FileId) -> Result<(), Ope
 
 /// Syncs a file.
 pub(crate) fn sync_file<D: Disk>(disk: &mut D, name: Name) -> Result<(), OpenError>
-    requires { IsTrue D.tells → IsOurs name (D.told disk.old) }
-    ensures course { Course D.tells
-        (record { told = D.told disk.old; faults = D.faults disk.old; views = D.fallible_views disk.old; outs = D.fallible_outs disk.old })
-        (record { told = D.told disk.new; faults = D.faults disk.new; views = D.fallible_views disk.new; outs = D.fallible_outs disk.new })
-        result }
-    ensures image { IsTrue D.tells → (D.told disk.new).image ≡ (D.told disk.old).image }
-    ensures lent { IsTrue D.tells → NoneLent (D.told disk.old).fronts → NoneLent (D.told disk.new).fronts }
-    ensures synced { IsTrue D.tells → OnOk result (SyncsToo name (D.told disk.old) (D.told disk.new)) }
+    requires { IsTrue D.tells → IsOurs name (D.shown disk.old).told }
+    ensures course { Course D.tells (D.shown disk.old) (D.shown disk.new) result }
+    ensures image { IsTrue D.tells → (D.shown disk.new).told.image ≡ (D.shown disk.old).told.image }
+    ensures lent { IsTrue D.tells → NoneLent (D.shown disk.old).told.fronts → NoneLent (D.shown disk.new).told.fronts }
+    ensures synced { IsTrue D.tells → OnOk result (SyncsToo name (D.shown disk.old).told (D.shown disk.new).told) }
 {
     match disk.sync(name) {
         Ok(()) => Ok(()),
@@ -100,18 +88,15 @@ pub(crate) fn view_file<D: Disk>(
     from: u64,
     len: u64,
 ) -> Result<D::View, OpenError>
-    requires { IsTrue D.tells → MayView name from len (D.told disk.old).image }
-    ensures course { Course D.tells
-        (record { told = D.told disk.old; faults = D.faults disk.old; views = D.fallible_views disk.old; outs = D.fallible_outs disk.old })
-        (record { told = D.told disk.new; faults = D.faults disk.new; views = D.fallible_views disk.new; outs = D.fallible_outs disk.new })
-        result }
+    requires { IsTrue D.tells → MayView name from len (D.shown disk.old).told.image }
+    ensures course { Course D.tells (D.shown disk.old) (D.shown disk.new) result }
     ensures rest { IfOk result (λ view. D.View.rest view ≡ len) }
     ensures bytes { IsTrue D.tells → IfOk result
-        (λ view. D.View.left view ≡ range_of name from len (D.told disk.old).image) }
-    ensures views { IfOk result (λ view. D.fallible_views disk.new
-        ≡ bumped (D.View.fallible view) (D.fallible_views disk.old)) }
-    ensures image { IsTrue D.tells → (D.told disk.new).image ≡ (D.told disk.old).image }
-    ensures asked { IsTrue D.tells → AsksOnly name len (D.told disk.old) (D.told disk.new) }
+        (λ view. D.View.left view ≡ range_of name from len (D.shown disk.old).told.image) }
+    ensures views { IfOk result (λ view. (D.shown disk.new).views
+        ≡ bumped (D.View.fallible view) (D.shown disk.old).views) }
+    ensures image { IsTrue D.tells → (D.shown disk.new).told.image ≡ (D.shown disk.old).told.image }
+    ensures asked { IsTrue D.tells → AsksOnly name len (D.shown disk.old).told (D.shown disk.new).told }
 {
     opened(disk.view(name, from, len))
 }
@@ -123,15 +108,12 @@ pub(crate) fn read_whole<D: Disk>(
     name: Name,
     len: u64,
 ) -> Result<Vec<u8>, OpenError>
-    requires { IsTrue D.tells → MayView name 0 len (D.told disk.old).image }
-    ensures course { Course D.tells
-        (record { told = D.told disk.old; faults = D.faults disk.old; views = D.fallible_views disk.old; outs = D.fallible_outs disk.old })
-        (record { told = D.told disk.new; faults = D.faults disk.new; views = D.fallible_views disk.new; outs = D.fallible_outs disk.new })
-        result }
+    requires { IsTrue D.tells → MayView name 0 len (D.shown disk.old).told.image }
+    ensures course { Course D.tells (D.shown disk.old) (D.shown disk.new) result }
     ensures bytes { IsTrue D.tells → IfOk result
-        (λ bytes. bytes.items ≡ range_of name 0 len (D.told disk.old).image) }
-    ensures image { IsTrue D.tells → (D.told disk.new).image ≡ (D.told disk.old).image }
-    ensures asked { IsTrue D.tells → AsksOnly name len (D.told disk.old) (D.told disk.new) }
+        (λ bytes. bytes.items ≡ range_of name 0 len (D.shown disk.old).told.image) }
+    ensures image { IsTrue D.tells → (D.shown disk.new).told.image ≡ (D.shown disk.old).told.image }
+    ensures asked { IsTrue D.tells → AsksOnly name len (D.shown disk.old).told (D.shown disk.new).told }
 {
     let mut view = view_file(disk, name, 0, len)?;
     read_view(alloc, &mut view, len)

@@ -18,12 +18,9 @@ use std::collections::BTreeMap;
 
 /// Removes the files that nothing needs. No whole swap list stands.
 pub(crate) fn clear_loose<D: Disk>(alloc: Global, disk: &mut D) -> Result<(), OpenError>
-    requires { IsTrue D.tells → HasNoList (at (D.told disk.old).image) }
-    ensures course { Course D.tells
-        (record { told = D.told disk.old; faults = D.faults disk.old; views = D.fallible_views disk.old; outs = D.fallible_outs disk.old })
-        (record { told = D.told disk.new; faults = D.faults disk.new; views = D.fallible_views disk.new; outs = D.fallible_outs disk.new })
-        result }
-    ensures cleared { IsTrue D.tells → OnOk result (IsCleared (at (D.told disk.new).image)) }
+    requires { IsTrue D.tells → HasNoList (at (D.shown disk.old).told.image) }
+    ensures course { Course D.tells (D.shown disk.old) (D.shown disk.new) result }
+    ensures cleared { IsTrue D.tells → OnOk result (IsCleared (at (D.shown disk.new).told.image)) }
 {
     let files = list_files(disk)?;
     let mains = lengths(alloc, &files, Kind::Main)?;

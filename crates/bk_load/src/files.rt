@@ -42,24 +42,21 @@ pub(crate) fn read_files<D: Disk, P: Progress>(
     learned: &mut Learned,
     progress: &mut P,
 ) -> Result<Vec<FileFound>, OpenError>
-    requires no_list { IsTrue D.tells → HasNoList (at (D.told disk.old).image) }
-    requires none_lent { IsTrue D.tells → NoneLent (D.told disk.old).fronts }
-    ensures course { Course D.tells
-        (record { told = D.told disk.old; faults = D.faults disk.old; views = D.fallible_views disk.old; outs = D.fallible_outs disk.old })
-        (record { told = D.told disk.new; faults = D.faults disk.new; views = D.fallible_views disk.new; outs = D.fallible_outs disk.new })
-        result }
-    ensures image { IsTrue D.tells → (D.told disk.new).image ≡ (D.told disk.old).image }
+    requires no_list { IsTrue D.tells → HasNoList (at (D.shown disk.old).told.image) }
+    requires none_lent { IsTrue D.tells → NoneLent (D.shown disk.old).told.fronts }
+    ensures course { Course D.tells (D.shown disk.old) (D.shown disk.new) result }
+    ensures image { IsTrue D.tells → (D.shown disk.new).told.image ≡ (D.shown disk.old).told.image }
     ensures fit { AreFit learned.old → OnOk result (AreFit learned.new) }
     ensures kept { IfOk result
         (λ found. KeepsFound found.items learned.old.keys.entries learned.new.keys.entries) }
     ensures rise { IfOk result (λ found. FilesRise 1 found.items) }
     ensures uncounted { IfOk result (λ found. AllByRecursion IsUncounted found.items) }
-    ensures found { IsTrue D.tells → IfOk result (λ found. AreFound (at (D.told disk.old).image) found.items) }
+    ensures found { IsTrue D.tells → IfOk result (λ found. AreFound (at (D.shown disk.old).told.image) found.items) }
     ensures synced { IsTrue D.tells → IfOk result
-        (λ found. AreSyncedIfSealed (map found_row found.items) (D.told disk.new)) }
+        (λ found. AreSyncedIfSealed (map found_row found.items) (D.shown disk.new).told) }
     ensures read { IsTrue D.tells → (books : Books)
-        → ((n : _) → Counts (at (D.told disk.old).image) n → AreRecords (bytes_in (at (D.told disk.old).image) n) (books n))
-        → HintsTrue (at (D.told disk.old).image) books
+        → ((n : _) → Counts (at (D.shown disk.old).told.image) n → AreRecords (bytes_in (at (D.shown disk.old).told.image) n) (books n))
+        → HintsTrue (at (D.shown disk.old).told.image) books
         → IfOk result (λ found. HaveRead books found.items learned.old learned.new) }
 {
     let files = list_files(disk)?;
@@ -88,25 +85,22 @@ fn read_file<D: Disk>(
     hint_size: Option<u64>,
 ) -> Result<FileFound, OpenError>
     requires first { 1 ≤ file.0 }
-    requires no_list { IsTrue D.tells → HasNoList (at (D.told disk.old).image) }
-    requires none_lent { IsTrue D.tells → NoneLent (D.told disk.old).fronts }
-    requires there { IsTrue D.tells → option_map length (at (D.told disk.old).image (main file.0)) ≡ Some len }
-    requires hint { IsTrue D.tells → option_map length (at (D.told disk.old).image (hint file.0)) ≡ hint_size }
-    ensures course { Course D.tells
-        (record { told = D.told disk.old; faults = D.faults disk.old; views = D.fallible_views disk.old; outs = D.fallible_outs disk.old })
-        (record { told = D.told disk.new; faults = D.faults disk.new; views = D.fallible_views disk.new; outs = D.fallible_outs disk.new })
-        result }
-    ensures image { IsTrue D.tells → (D.told disk.new).image ≡ (D.told disk.old).image }
+    requires no_list { IsTrue D.tells → HasNoList (at (D.shown disk.old).told.image) }
+    requires none_lent { IsTrue D.tells → NoneLent (D.shown disk.old).told.fronts }
+    requires there { IsTrue D.tells → option_map length (at (D.shown disk.old).told.image (main file.0)) ≡ Some len }
+    requires hint { IsTrue D.tells → option_map length (at (D.shown disk.old).told.image (hint file.0)) ≡ hint_size }
+    ensures course { Course D.tells (D.shown disk.old) (D.shown disk.new) result }
+    ensures image { IsTrue D.tells → (D.shown disk.new).told.image ≡ (D.shown disk.old).told.image }
     ensures fit { AreFit learned.old → OnOk result (AreFit learned.new) }
     ensures kept { IfOk result
         (λ found. KeepsFound (found ∷ []) learned.old.keys.entries learned.new.keys.entries) }
     ensures file { IfOk result (λ found. found.row.id ≡ file) }
     ensures uncounted { IfOk result IsUncounted }
-    ensures found { IsTrue D.tells → IfOk result (IsFound (at (D.told disk.old).image)) }
-    ensures synced { IsTrue D.tells → OnOk result (SyncsToo (main file.0) (D.told disk.old) (D.told disk.new)) }
+    ensures found { IsTrue D.tells → IfOk result (IsFound (at (D.shown disk.old).told.image)) }
+    ensures synced { IsTrue D.tells → OnOk result (SyncsToo (main file.0) (D.shown disk.old).told (D.shown disk.new).told) }
     ensures read { IsTrue D.tells → (bytes : List ℕ) (writes : List Write)
-        → at (D.told disk.old).image (main file.0) ≡ Some bytes → AreRecords bytes writes
-        → TrueIfThere (at (D.told disk.old).image (hint file.0)) (length bytes) writes
+        → at (D.shown disk.old).told.image (main file.0) ≡ Some bytes → AreRecords bytes writes
+        → TrueIfThere (at (D.shown disk.old).told.image (hint file.0)) (length bytes) writes
         → IfOk result (λ found. HasScanned file 0 writes found.row.total learned.old learned.new) }
 {
     sync_file(disk, named(file, Kind::Main))?;
@@ -132,19 +126,16 @@ fn read_hint_if_there<D: Disk>(
     len: u64,
     hint_size: Option<u64>,
 ) -> Result<Option<Verdict>, OpenError>
-    requires { IsTrue D.tells → option_map length (at (D.told disk.old).image (hint file.0)) ≡ hint_size }
-    ensures course { Course D.tells
-        (record { told = D.told disk.old; faults = D.faults disk.old; views = D.fallible_views disk.old; outs = D.fallible_outs disk.old })
-        (record { told = D.told disk.new; faults = D.faults disk.new; views = D.fallible_views disk.new; outs = D.fallible_outs disk.new })
-        result }
-    ensures image { IsTrue D.tells → (D.told disk.new).image ≡ (D.told disk.old).image }
-    ensures fronts { IsTrue D.tells → (D.told disk.new).fronts ≡ (D.told disk.old).fronts }
+    requires { IsTrue D.tells → option_map length (at (D.shown disk.old).told.image (hint file.0)) ≡ hint_size }
+    ensures course { Course D.tells (D.shown disk.old) (D.shown disk.new) result }
+    ensures image { IsTrue D.tells → (D.shown disk.new).told.image ≡ (D.shown disk.old).told.image }
+    ensures fronts { IsTrue D.tells → (D.shown disk.new).told.fronts ≡ (D.shown disk.old).told.fronts }
     ensures covered { IfOk result (λ verdict. part_covered verdict ≤ len) }
-    ensures judged { IsTrue D.tells → IfOk result (IsJudged (at (D.told disk.old).image (hint file.0)) len) }
+    ensures judged { IsTrue D.tells → IfOk result (IsJudged (at (D.shown disk.old).told.image (hint file.0)) len) }
     ensures fit { AreFit learned.old → OnOk result (AreFit learned.new) }
     ensures kept { OnOk result (KeepsWithin file len learned.old.keys.entries learned.new.keys.entries) }
     ensures taken { IsTrue D.tells → (writes : List Write)
-        → TrueIfThere (at (D.told disk.old).image (hint file.0)) len writes
+        → TrueIfThere (at (D.shown disk.old).told.image (hint file.0)) len writes
         → AllByRecursion IsWritable writes
         → IfOk result (λ verdict. HasTaken file writes (part_covered verdict) learned.old learned.new) }
 {

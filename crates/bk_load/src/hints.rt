@@ -33,20 +33,17 @@ pub(crate) fn read_hint<D: Disk>(
     size: u64,
 ) -> Result<Verdict, OpenError>
     requires { IsTrue D.tells → (bytes : List ℕ)
-        × (at (D.told disk.old).image (hint file.0) ≡ Some bytes) × (length bytes ≡ size) }
-    ensures course { Course D.tells
-        (record { told = D.told disk.old; faults = D.faults disk.old; views = D.fallible_views disk.old; outs = D.fallible_outs disk.old })
-        (record { told = D.told disk.new; faults = D.faults disk.new; views = D.fallible_views disk.new; outs = D.fallible_outs disk.new })
-        result }
-    ensures image { IsTrue D.tells → (D.told disk.new).image ≡ (D.told disk.old).image }
-    ensures fronts { IsTrue D.tells → (D.told disk.new).fronts ≡ (D.told disk.old).fronts }
+        × (at (D.shown disk.old).told.image (hint file.0) ≡ Some bytes) × (length bytes ≡ size) }
+    ensures course { Course D.tells (D.shown disk.old) (D.shown disk.new) result }
+    ensures image { IsTrue D.tells → (D.shown disk.new).told.image ≡ (D.shown disk.old).told.image }
+    ensures fronts { IsTrue D.tells → (D.shown disk.new).told.fronts ≡ (D.shown disk.old).told.fronts }
     ensures covered { IfOk result (λ verdict. covered_by (Some verdict) ≤ len) }
-    ensures judged { IsTrue D.tells → (bytes : List ℕ) → at (D.told disk.old).image (hint file.0) ≡ Some bytes
+    ensures judged { IsTrue D.tells → (bytes : List ℕ) → at (D.shown disk.old).told.image (hint file.0) ≡ Some bytes
         → IfOk result (λ verdict. IsVerdict bytes len verdict) }
     ensures fit { AreFit learned.old → OnOk result (AreFit learned.new) }
     ensures kept { OnOk result (KeepsWithin file len learned.old.keys.entries learned.new.keys.entries) }
     ensures taken { IsTrue D.tells → (bytes : List ℕ) (writes : List Write)
-        → at (D.told disk.old).image (hint file.0) ≡ Some bytes → HintTrue bytes len writes
+        → at (D.shown disk.old).told.image (hint file.0) ≡ Some bytes → HintTrue bytes len writes
         → AllByRecursion IsWritable writes
         → IfOk result (λ verdict. HasTaken file writes (covered_by (Some verdict)) learned.old learned.new) }
 {

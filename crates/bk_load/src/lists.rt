@@ -34,16 +34,13 @@ pub(crate) fn read_lists<D: Disk>(
     disk: &mut D,
     files: &[Listed],
 ) -> Result<Lists, OpenError>
-    requires { IsTrue D.tells → files.now ≡ listing (D.told disk.old).image }
-    ensures course { Course D.tells
-        (record { told = D.told disk.old; faults = D.faults disk.old; views = D.fallible_views disk.old; outs = D.fallible_outs disk.old })
-        (record { told = D.told disk.new; faults = D.faults disk.new; views = D.fallible_views disk.new; outs = D.fallible_outs disk.new })
-        result }
-    ensures image { IsTrue D.tells → (D.told disk.new).image ≡ (D.told disk.old).image }
+    requires { IsTrue D.tells → files.now ≡ listing (D.shown disk.old).told.image }
+    ensures course { Course D.tells (D.shown disk.old) (D.shown disk.new) result }
+    ensures image { IsTrue D.tells → (D.shown disk.new).told.image ≡ (D.shown disk.old).told.image }
     ensures whole { IsTrue D.tells → IfOk result
-        (λ lists. AreLists (at (D.told disk.old).image) lists.whole.items) }
+        (λ lists. AreLists (at (D.shown disk.old).told.image) lists.whole.items) }
     ensures odd { IsTrue D.tells → IfOk result
-        (λ lists. AreOdd (at (D.told disk.old).image) lists.odd.items) }
+        (λ lists. AreOdd (at (D.shown disk.old).told.image) lists.odd.items) }
 {
     let swaps = in_order(alloc, files, Kind::Swap, 0)?;
     let mut lists = Lists {

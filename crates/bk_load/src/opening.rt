@@ -25,18 +25,16 @@ pub fn open<D: Disk, P: Progress>(
     settings: Settings,
     progress: &mut P,
 ) -> Result<Store<D>, (D, OpenError)>
-    requires { IsTrue D.tells → NoneLent (D.told disk).fronts }
+    requires { IsTrue D.tells → NoneLent (D.shown disk).told.fronts }
     ensures came { IfOk result (λ store. Came D.tells
-        (record { told = D.told disk; faults = D.faults disk; views = D.fallible_views disk; outs = D.fallible_outs disk })
+        (D.shown disk)
         (record { told = store.files.told; faults = store.files.faults; views = store.files.fallible_views; outs = store.files.fallible_outs })) }
     ensures settings { IfOk result (λ store. store.settings ≡ settings) }
     ensures limit { IfOk result (λ store. store.files.catalog.max_file ≡ settings.max_file) }
     ensures no_fold { IfOk result (λ store. has_open store.keys.slots ≡ false) }
-    ensures stands { IsTrue D.tells → (log : List Write) → IsSoundDisk (D.told disk) log
+    ensures stands { IsTrue D.tells → (log : List Write) → IsSoundDisk (D.shown disk).told log
         → IfOk result (λ store. StandsFor store (opening_of log store) [] []) }
-    ensures refused { IfErr result (λ refused. Course {T = Unit {0}} D.tells
-        (record { told = D.told disk; faults = D.faults disk; views = D.fallible_views disk; outs = D.fallible_outs disk })
-        (record { told = D.told refused.0; faults = D.faults refused.0; views = D.fallible_views refused.0; outs = D.fallible_outs refused.0 })
+    ensures refused { IfErr result (λ refused. Course {T = Unit {0}} D.tells (D.shown disk) (D.shown refused.0)
         (Err refused.1)) }
 {
     let mut disk = disk;

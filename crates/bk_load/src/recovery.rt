@@ -43,25 +43,22 @@ pub fn recover<D: Disk, P: Progress>(
     disk: &mut D,
     progress: &mut P,
 ) -> Result<Loaded, OpenError>
-    requires { IsTrue D.tells → NoneLent (D.told disk.old).fronts }
-    ensures course { Course D.tells
-        (record { told = D.told disk.old; faults = D.faults disk.old; views = D.fallible_views disk.old; outs = D.fallible_outs disk.old })
-        (record { told = D.told disk.new; faults = D.faults disk.new; views = D.fallible_views disk.new; outs = D.fallible_outs disk.new })
-        result }
+    requires { IsTrue D.tells → NoneLent (D.shown disk.old).told.fronts }
+    ensures course { Course D.tells (D.shown disk.old) (D.shown disk.new) result }
     ensures order { IfOk result IsInOrder }
-    ensures files { IsTrue D.tells → IfOk result (AreFilesOf (D.told disk.new)) }
-    ensures idle { IsTrue D.tells → OnOk result (HasNoList (at (D.told disk.new).image)) }
-    ensures loaded { IsTrue D.tells → IfOk result (IsLoadedFrom (at (D.told disk.new).image)) }
+    ensures files { IsTrue D.tells → IfOk result (AreFilesOf (D.shown disk.new).told) }
+    ensures idle { IsTrue D.tells → OnOk result (HasNoList (at (D.shown disk.new).told.image)) }
+    ensures loaded { IsTrue D.tells → IfOk result (IsLoadedFrom (at (D.shown disk.new).told.image)) }
     ensures odd { IsTrue D.tells → IfOk result
-        (λ loaded. AreOdd (at (D.told disk.old).image) loaded.report.odd.items) }
+        (λ loaded. AreOdd (at (D.shown disk.old).told.image) loaded.report.odd.items) }
     ensures cleared { IsTrue D.tells → IfOk result
-        (λ loaded. loaded.report.odd.items ≡ [] → IsCleared (at (D.told disk.new).image)) }
+        (λ loaded. loaded.report.odd.items ≡ [] → IsCleared (at (D.shown disk.new).told.image)) }
     ensures synced { IsTrue D.tells → IfOk result
-        (λ loaded. AreSyncedIfSealed loaded.rows.items (D.told disk.new)) }
+        (λ loaded. AreSyncedIfSealed loaded.rows.items (D.shown disk.new).told) }
     ensures last_file { IsTrue D.tells → IfOk result
-        (λ loaded. loaded.last_file.0 ≡ greatest_in (listing (D.told disk.old).image)) }
-    ensures sound { IsTrue D.tells → (log : List Write) → IsSoundDisk (D.told disk.old) log
-        → IfOk result (λ loaded. IsLoadOf (D.told disk.new) loaded log) }
+        (λ loaded. loaded.last_file.0 ≡ greatest_in (listing (D.shown disk.old).told.image)) }
+    ensures sound { IsTrue D.tells → (log : List Write) → IsSoundDisk (D.shown disk.old).told log
+        → IfOk result (λ loaded. IsLoadOf (D.shown disk.new).told loaded log) }
 {
     let listed = list_files(disk)?;
     let lists = read_lists(alloc, disk, &listed)?;
@@ -75,12 +72,9 @@ pub fn recover<D: Disk, P: Progress>(
 
 // Clears the directory where no list is odd.
 fn clear_unless_odd<D: Disk>(alloc: Global, disk: &mut D, odd: &[Name]) -> Result<(), OpenError>
-    requires { IsTrue D.tells → HasNoList (at (D.told disk.old).image) }
-    ensures course { Course D.tells
-        (record { told = D.told disk.old; faults = D.faults disk.old; views = D.fallible_views disk.old; outs = D.fallible_outs disk.old })
-        (record { told = D.told disk.new; faults = D.faults disk.new; views = D.fallible_views disk.new; outs = D.fallible_outs disk.new })
-        result }
-    ensures cleared { IsTrue D.tells → odd.now ≡ [] → OnOk result (IsCleared (at (D.told disk.new).image)) }
+    requires { IsTrue D.tells → HasNoList (at (D.shown disk.old).told.image) }
+    ensures course { Course D.tells (D.shown disk.old) (D.shown disk.new) result }
+    ensures cleared { IsTrue D.tells → odd.now ≡ [] → OnOk result (IsCleared (at (D.shown disk.new).told.image)) }
 {
     if odd.is_empty() {
         return clear_loose(alloc, disk);

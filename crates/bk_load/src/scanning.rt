@@ -30,19 +30,16 @@ pub(crate) fn scan_from<D: Disk>(
 ) -> Result<u64, OpenError>
     requires inside { from ≤ len }
     requires there { IsTrue D.tells → (bytes : List ℕ)
-        × (at (D.told disk.old).image (main file.0) ≡ Some bytes) × (length bytes ≡ len) }
-    requires needed { IsTrue D.tells → (from ≡ len → ⊥) → NeedsScan (at (D.told disk.old).image) file.0 }
-    ensures course { Course D.tells
-        (record { told = D.told disk.old; faults = D.faults disk.old; views = D.fallible_views disk.old; outs = D.fallible_outs disk.old })
-        (record { told = D.told disk.new; faults = D.faults disk.new; views = D.fallible_views disk.new; outs = D.fallible_outs disk.new })
-        result }
-    ensures image { IsTrue D.tells → (D.told disk.new).image ≡ (D.told disk.old).image }
-    ensures fronts { IsTrue D.tells → (D.told disk.new).fronts ≡ (D.told disk.old).fronts }
+        × (at (D.shown disk.old).told.image (main file.0) ≡ Some bytes) × (length bytes ≡ len) }
+    requires needed { IsTrue D.tells → (from ≡ len → ⊥) → NeedsScan (at (D.shown disk.old).told.image) file.0 }
+    ensures course { Course D.tells (D.shown disk.old) (D.shown disk.new) result }
+    ensures image { IsTrue D.tells → (D.shown disk.new).told.image ≡ (D.shown disk.old).told.image }
+    ensures fronts { IsTrue D.tells → (D.shown disk.new).told.fronts ≡ (D.shown disk.old).told.fronts }
     ensures within { IfOk result (λ end. end ≤ len) }
     ensures fit { AreFit learned.old → OnOk result (AreFit learned.new) }
     ensures kept { OnOk result (KeepsWithin file len learned.old.keys.entries learned.new.keys.entries) }
     ensures scanned { IsTrue D.tells → (bytes : List ℕ) (writes : List Write)
-        → at (D.told disk.old).image (main file.0) ≡ Some bytes → AreRecords (drop from bytes) writes
+        → at (D.shown disk.old).told.image (main file.0) ≡ Some bytes → AreRecords (drop from bytes) writes
         → IfOk result (λ end. HasScanned file from writes end learned.old learned.new) }
 {
     if from == len {

@@ -24,13 +24,10 @@ const FILE: Name = Name {
 /// `Disk` comes only where the disk's count of faults rose, `Read` only where that of the fallible views
 /// did.
 pub fn settings<D: Disk>(alloc: Global, disk: &mut D) -> Result<Settings, LoadSettings>
-    ensures answers { IsTrue D.tells → Answers (at (D.told disk.old).image settings_file) result }
-    ensures loads { Loads
-        (record { told = D.told disk.old; faults = D.faults disk.old; views = D.fallible_views disk.old; outs = D.fallible_outs disk.old })
-        (record { told = D.told disk.new; faults = D.faults disk.new; views = D.fallible_views disk.new; outs = D.fallible_outs disk.new })
-        result }
+    ensures answers { IsTrue D.tells → Answers (at (D.shown disk.old).told.image settings_file) result }
+    ensures loads { Loads (D.shown disk.old) (D.shown disk.new) result }
     ensures asked { IsTrue D.tells → AsksOnly settings_file
-        (length (bytes_of settings_file (D.told disk.old).image)) (D.told disk.old) (D.told disk.new) }
+        (length (bytes_of settings_file (D.shown disk.old).told.image)) (D.shown disk.old).told (D.shown disk.new).told }
 {
     let files = list_files(disk)?;
     match length_of(&files, FILE) {
@@ -54,13 +51,10 @@ fn length_of(files: &[Listed], name: Name) -> Option<u64>
 
 // What the file of this length says.
 fn read_settings<D: Disk>(alloc: Global, disk: &mut D, len: u64) -> Result<Settings, LoadSettings>
-    requires { IsTrue D.tells → option_map length (at (D.told disk.old).image settings_file) ≡ Some len }
-    ensures answers { IsTrue D.tells → Answers (at (D.told disk.old).image settings_file) result }
-    ensures loads { Loads
-        (record { told = D.told disk.old; faults = D.faults disk.old; views = D.fallible_views disk.old; outs = D.fallible_outs disk.old })
-        (record { told = D.told disk.new; faults = D.faults disk.new; views = D.fallible_views disk.new; outs = D.fallible_outs disk.new })
-        result }
-    ensures asked { IsTrue D.tells → AsksOnly settings_file len (D.told disk.old) (D.told disk.new) }
+    requires { IsTrue D.tells → option_map length (at (D.shown disk.old).told.image settings_file) ≡ Some len }
+    ensures answers { IsTrue D.tells → Answers (at (D.shown disk.old).told.image settings_file) result }
+    ensures loads { Loads (D.shown disk.old) (D.shown disk.new) result }
+    ensures asked { IsTrue D.tells → AsksOnly settings_file len (D.shown disk.old).told (D.shown disk.new).told }
 {
     if len > u64::from(LONGEST_SETTINGS) {
         return Err(LoadSettings::Bad(SettingsError::TooLong { len }));

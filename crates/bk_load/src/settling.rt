@@ -19,12 +19,9 @@ use bk_disk::{Disk, Listed};
 
 /// Settles the lists one after the other. They are all whole lists that stand, in order of id.
 pub(crate) fn settle_lists<D: Disk>(disk: &mut D, lists: &[Standing]) -> Result<(), OpenError>
-    requires { IsTrue D.tells → AreLists (at (D.told disk.old).image) lists.now }
-    ensures course { Course D.tells
-        (record { told = D.told disk.old; faults = D.faults disk.old; views = D.fallible_views disk.old; outs = D.fallible_outs disk.old })
-        (record { told = D.told disk.new; faults = D.faults disk.new; views = D.fallible_views disk.new; outs = D.fallible_outs disk.new })
-        result }
-    ensures none { IsTrue D.tells → OnOk result (HasNoList (at (D.told disk.new).image)) }
+    requires { IsTrue D.tells → AreLists (at (D.shown disk.old).told.image) lists.now }
+    ensures course { Course D.tells (D.shown disk.old) (D.shown disk.new) result }
+    ensures none { IsTrue D.tells → OnOk result (HasNoList (at (D.shown disk.new).told.image)) }
 {
     let mut waiting = lists;
     'lists: while let Some((first, later)) = waiting.split_first() {
@@ -42,15 +39,12 @@ fn rename_outputs<D: Disk>(
     outputs: &[FileId],
     waiting: &[Standing],
 ) -> Result<(), OpenError>
-    requires lists { IsTrue D.tells → AreLists (at (D.told disk.old).image) waiting.now }
+    requires lists { IsTrue D.tells → AreLists (at (D.shown disk.old).told.image) waiting.now }
     requires outputs { IsTrue D.tells → (id : ℕ) → In id (numbers outputs.now)
-        → IsOutput (at (D.told disk.old).image) id }
-    ensures course { Course D.tells
-        (record { told = D.told disk.old; faults = D.faults disk.old; views = D.fallible_views disk.old; outs = D.fallible_outs disk.old })
-        (record { told = D.told disk.new; faults = D.faults disk.new; views = D.fallible_views disk.new; outs = D.fallible_outs disk.new })
-        result }
+        → IsOutput (at (D.shown disk.old).told.image) id }
+    ensures course { Course D.tells (D.shown disk.old) (D.shown disk.new) result }
     ensures named { IsTrue D.tells → OnOk result (HaveTakenNames (numbers outputs.now)
-        (at (D.told disk.old).image) (at (D.told disk.new).image)) }
+        (at (D.shown disk.old).told.image) (at (D.shown disk.new).told.image)) }
 {
     let files = list_files(disk)?;
     for output in outputs {
@@ -90,13 +84,10 @@ fn has_name(files: &[Listed], name: Name) -> bool
 // The files of the inputs go: first the hint of each, and its data file last.
 fn drop_inputs<D: Disk>(disk: &mut D, inputs: &[FileId]) -> Result<(), OpenError>
     requires { IsTrue D.tells → (id : ℕ) → In id (numbers inputs.now)
-        → IsInput (at (D.told disk.old).image) id }
-    ensures course { Course D.tells
-        (record { told = D.told disk.old; faults = D.faults disk.old; views = D.fallible_views disk.old; outs = D.fallible_outs disk.old })
-        (record { told = D.told disk.new; faults = D.faults disk.new; views = D.fallible_views disk.new; outs = D.fallible_outs disk.new })
-        result }
+        → IsInput (at (D.shown disk.old).told.image) id }
+    ensures course { Course D.tells (D.shown disk.old) (D.shown disk.new) result }
     ensures lost { IsTrue D.tells → OnOk result (LosesInputs (numbers inputs.now)
-        (at (D.told disk.old).image) (at (D.told disk.new).image)) }
+        (at (D.shown disk.old).told.image) (at (D.shown disk.new).told.image)) }
 {
     for input in inputs {
         drop_input(disk, *input)?;
@@ -105,13 +96,10 @@ fn drop_inputs<D: Disk>(disk: &mut D, inputs: &[FileId]) -> Result<(), OpenError
 }
 
 fn drop_input<D: Disk>(disk: &mut D, input: FileId) -> Result<(), OpenError>
-    requires { IsTrue D.tells → IsInput (at (D.told disk.old).image) input.0 }
-    ensures course { Course D.tells
-        (record { told = D.told disk.old; faults = D.faults disk.old; views = D.fallible_views disk.old; outs = D.fallible_outs disk.old })
-        (record { told = D.told disk.new; faults = D.faults disk.new; views = D.fallible_views disk.new; outs = D.fallible_outs disk.new })
-        result }
+    requires { IsTrue D.tells → IsInput (at (D.shown disk.old).told.image) input.0 }
+    ensures course { Course D.tells (D.shown disk.old) (D.shown disk.new) result }
     ensures lost { IsTrue D.tells → OnOk result (LosesInputs (numbers (input ∷ []))
-        (at (D.told disk.old).image) (at (D.told disk.new).image)) }
+        (at (D.shown disk.old).told.image) (at (D.shown disk.new).told.image)) }
 {
     remove_file(disk, named(input, Kind::Hint))?;
     remove_file(disk, named(input, Kind::MainTemp))?;

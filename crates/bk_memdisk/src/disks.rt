@@ -161,7 +161,7 @@ fn fault(faults: &mut u64) -> Failed
 
 #[tactic(auto, using(crate::proofs::Stays::stays))]
 impl Disk for MemDisk {
-    ghost use Rattle.std.specs.Prelude.{refl};
+    ghost use Rattle.std.specs.Prelude.{false, refl};
     ghost use Rattle.bk_base.specs.declared.names.Name.{Name};
     ghost use Rattle.bk_memdisk.specs.Contents.{room_of, KeepsRooms};
     ghost use Rattle.bk_memdisk.specs.Disk.{told_by, calls_of, views_of, faults_of, SamePlans};
@@ -182,15 +182,13 @@ impl Disk for MemDisk {
 
     ghost tells = { true };
 
-    ghost told = { λ d. d.directory.told };
+    ghost shown = { λ d. record { told = d.directory.told; faults = d.faults; views = d.fallible_views; outs = 0 } };
 
     ghost room = { λ d n. room_of d.directory n };
 
-    ghost faults = { λ d. d.faults };
+    ghost gathers = { false };
 
-    ghost fallible_views = { λ d. d.fallible_views };
-
-    ghost fallible_outs = { λ _. 0 };
+    ghost failed_flushes = { λ _. 0 };
 
     ghost well = { λ d _. from_test d.directory.told d.well };
 
@@ -472,5 +470,12 @@ impl Disk for MemDisk {
                 Err(fault(&mut self.faults).into())
             }
         }
+    }
+
+    fn flush(&mut self) -> Result<(), Failed>
+        ensures same { self.new ≡ self.old }
+        ensures done { IsOk result }
+    {
+        Ok(())
     }
 }

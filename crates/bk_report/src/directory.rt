@@ -26,14 +26,12 @@ pub fn report_directory<D: Disk, K: Sink, P: Progress>(
     sink: &mut K,
     progress: &mut P,
 ) -> Result<(), ReportError>
-    requires { IsTrue D.tells → NoneLent (D.told disk.old).fronts }
-    ensures came { Came D.tells
-        (record { told = D.told disk.old; faults = D.faults disk.old; views = D.fallible_views disk.old; outs = D.fallible_outs disk.old })
-        (record { told = D.told disk.new; faults = D.faults disk.new; views = D.fallible_views disk.new; outs = D.fallible_outs disk.new }) }
-    ensures told { (output : List ℕ) × Tells result D.tells (D.told disk.old) (D.told disk.new) output
+    requires { IsTrue D.tells → NoneLent (D.shown disk.old).told.fronts }
+    ensures came { Came D.tells (D.shown disk.old) (D.shown disk.new) }
+    ensures told { (output : List ℕ) × Tells result D.tells (D.shown disk.old).told (D.shown disk.new).told output
         × (IsTrue K.tells → K.written sink.new ≡ K.written sink.old ++ output) }
-    ensures disk { IsErrOf result ReportError.Disk → Rose (D.faults disk.old) (D.faults disk.new) }
-    ensures read { IsErrOf result ReportError.Read → Rose (D.fallible_views disk.old) (D.fallible_views disk.new) }
+    ensures disk { IsErrOf result ReportError.Disk → Rose (D.shown disk.old).faults (D.shown disk.new).faults }
+    ensures read { IsErrOf result ReportError.Read → Rose (D.shown disk.old).views (D.shown disk.new).views }
     ensures later { K.faults sink.old ≤ K.faults sink.new }
     ensures sink { IsErrOf result ReportError.Sink → Rose (K.faults sink.old) (K.faults sink.new) }
 {

@@ -30,8 +30,8 @@ printed_text (Torn file at bytes) = line (and_number (and_number (numbered (code
 printed_text Memory = line (codes "MEMORY")
 printed_text Disk = line (codes "DISK")
 printed_text Read = line (codes "READ")
-printed_text (Damaged file at kept found) =
-    line (and_hex (and_hex (and_number (numbered (codes "DAMAGED ") file.0) at) kept) found)
+printed_text (Damaged d) =
+    line (and_hex (and_hex (and_number (numbered (codes "DAMAGED ") d.file.0) d.at) d.kept) d.found)
 printed_text (Full full) = line (codes "FULL " ++ full_word full)
 printed_text (NoFold slot) = line (numbered (codes "NOFOLD ") slot)
 printed_text (Syntax offset) = line (numbered (codes "SYNTAX ") offset)

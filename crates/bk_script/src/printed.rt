@@ -1,6 +1,6 @@
 //! The lines that a drill prints.
 
-use bk_base::{FileId, Full, Key, Seq, Value};
+use bk_base::{Damage, FileId, Full, Key, Seq, Value};
 
 /// A line that a drill prints.
 #[derive(Debug, Drop)]
@@ -18,31 +18,17 @@ pub enum Printed {
     /// `SYNCED seq`: all writes up to this one are synced.
     Synced(Seq),
     /// `FOLD slot epoch`: a fold is open.
-    Fold {
-        slot: u8,
-        epoch: Seq,
-    },
+    Fold { slot: u8, epoch: Seq },
     /// `PAIR K V`: a pair of a fold.
-    Pair {
-        key: Key,
-        value: Value,
-    },
+    Pair { key: Key, value: Value },
     /// `END n`: the fold has no more pairs than these.
     End(u64),
     /// `CLOSED`: the fold is closed.
     Closed,
     /// `REOPENED seq keys torn`: the last seq, the keys whose newest write is a put, the torn files.
-    Reopened {
-        seq: Seq,
-        keys: u64,
-        torn: u64,
-    },
+    Reopened { seq: Seq, keys: u64, torn: u64 },
     /// `TORN file at bytes`: so many bytes behind the whole records of this file were cut off.
-    Torn {
-        file: FileId,
-        at: u64,
-        bytes: u64,
-    },
+    Torn { file: FileId, at: u64, bytes: u64 },
     /// `MEMORY`: out of memory.
     Memory,
     /// `DISK`: the disk failed.
@@ -50,12 +36,7 @@ pub enum Printed {
     /// `READ`: a read of a file failed.
     Read,
     /// `DAMAGED file at kept found`: a record has another checksum than the one that was kept of it.
-    Damaged {
-        file: FileId,
-        at: u64,
-        kept: u32,
-        found: u32,
-    },
+    Damaged(Damage),
     /// `FULL seq`, `FULL files` or `FULL folds`: what the store has no more room for.
     Full(Full),
     /// `NOFOLD slot`: the actor has no fold in this slot.

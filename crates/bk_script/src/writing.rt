@@ -31,20 +31,7 @@ pub fn write_line(printed: &Printed, out: &mut Vec<u8>) -> Result<(), Memory>
         Printed::Memory => write_reply(&Reply::Memory, out),
         Printed::Disk => write_reply(&Reply::Disk, out),
         Printed::Read => write_reply(&Reply::Read, out),
-        Printed::Damaged {
-            file,
-            at,
-            kept,
-            found,
-        } => {
-            let reply = Reply::Damaged {
-                file: *file,
-                at: *at,
-                kept: *kept,
-                found: *found,
-            };
-            write_reply(&reply, out)
-        }
+        Printed::Damaged(damage) => write_reply(&Reply::Damaged(*damage), out),
         Printed::Full(full) => write_reply(&Reply::Full(*full), out),
         Printed::NoFold(slot) => write_no_fold(out, *slot),
         Printed::Syntax(offset) => write_reply(&Reply::Syntax(*offset), out),

@@ -173,7 +173,7 @@ cause_on : (listing : Listing) (c : Context) (p : Point) (line : Reply) (steps m
 cause_on listing c p Memory steps more n may closes cause = tt
 cause_on listing c p Disk steps more n may closes cause = at_earlier c p steps more (λ (e : Event). 1 ≤ e.step.faults) cause
 cause_on listing c p Read steps more n may closes cause = at_earlier c p steps more (λ (e : Event). 1 ≤ e.step.views) cause
-cause_on listing c p (Damaged file at kept found) steps more n may closes cause = cause
+cause_on listing c p (Damaged d) steps more n may closes cause = cause
 cause_on listing c p (Full Turns) steps more n may closes cause = absurd (true≢false (sym closes))
 cause_on Keys c p line steps more n may closes cause = absurd (true≢false (sym may))
 cause_on Pairs c p line steps more n may closes cause = absurd (true≢false (sym may))

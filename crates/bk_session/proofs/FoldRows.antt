@@ -241,9 +241,9 @@ module _ (disk sink : Bool) (slot : ℕ) (v u : Shown) (key : List ℕ) (l : Len
     λ b rows steps listed. dropped_with fold_request b rows steps Read listed refl refl refl
         (view_at_last b steps shows.0),
   )
-  gives_pair views (Line (Damaged file at kept found)) out new hears shows = (
+  gives_pair views (Line (Damaged d)) out new hears shows = (
     shows.1,
-    λ b rows steps listed. dropped_with fold_request b rows steps (Damaged file at kept found) listed refl refl refl (
+    λ b rows steps listed. dropped_with fold_request b rows steps (Damaged d) listed refl refl refl (
       shows.0.2,
       false_from_ne_true b.opening.whole (λ whole.
           let tell = listed.follows.whole whole in

@@ -191,9 +191,9 @@ module _ (tells : Bool) (key : List ℕ) (now : Moment) (v u : Shown) (still : S
       (λ o h tried f. at_event o h
       (step_of tells (entry_by 0 (get_call key now) (Found (drop l.value_at l.left))) (u.files.faults - v.files.faults) r.n u)
       (λ (e : Event). 1 ≤ e.step.views) refl (r.some given))
-  get_given views_tell l (Damaged file at kept found) given hears views keeps lends =
+  get_given views_tell l (Damaged d) given hears views keeps lends =
       let r = rises_by_view l.fallible v u later views outs in
-      spoiled l (Damaged file at kept found) r refl refl refl keeps
+      spoiled l (Damaged d) r refl refl refl keeps
       (λ o h tried f. (
         given.2,
         false_from_ne_true o.whole (λ whole.

@@ -19,7 +19,7 @@ use Rattle.bk_exchange.specs.Points.{Said, events, point_of}
 use Rattle.bk_exchange.specs.Refusals.{Cause, closes_after, may_drop}
 use Rattle.bk_keydir.specs.Slots.{slot_at, who_of}
 use Rattle.bk_laws.specs.Wire.{reply_text}
-use Rattle.bk_store.specs.Loans.{Lent, check_of}
+use Rattle.bk_store.specs.Loans.{Lent}
 use Rattle.bk_store.specs.Shown.{Shown}
 use Rattle.bk_session.specs.declared.listings.Given.{Given}
 use Rattle.bk_session.specs.declared.listings.Given.TheVariants.{Row as given_row, End as given_end, Line, Sink}
@@ -27,7 +27,7 @@ use Rattle.bk_session.specs.declared.listings.Listing.{Listing}
 use Rattle.bk_session.specs.declared.listings.Listing.TheVariants.{Keys, Pairs}
 use Rattle.bk_session.specs.declared.serving.Onward.{Onward}
 use Rattle.bk_session.specs.Following.{Follows, own_context}
-use Rattle.bk_session.specs.Outgoing.{Outgoing, Sends, Stops}
+use Rattle.bk_session.specs.Outgoing.{IsDamageOf, Outgoing, Sends, Stops}
 use Rattle.bk_session.specs.Serving.{IsServedAs, IsSince, SendsAs}
 
 abbrev pub request_of : Listing → Request
@@ -75,8 +75,7 @@ ShowsText given sink text old new = ⊥
 -- why the value of a loan has no row
 abbrev pub IsSpoilt : Bool → Lent → Reply → Type 0
 IsSpoilt tells l Read = l.fallible ≡ true
-IsSpoilt tells l (Damaged file at kept found) =
-    (file ≡ l.file) × (at ≡ l.at) × (kept ≢ found) × (kept ≡ l.crc) × (IsTrue tells → found ≡ check_of l.left)
+IsSpoilt tells l (Damaged d) = IsDamageOf tells l d
 IsSpoilt tells l Memory = Unit {0}
 IsSpoilt tells l reply = ⊥
 

@@ -1,5 +1,6 @@
 -- What goes to a session's client: the bytes that its sink took, and the replies that wait to be written.
 use Rattle.std.specs.Prelude.{◌≡◌, ◌≢◌, ℕ, ◌+◌, List, ◌++◌, length, drop, Bool, true, IsTrue}
+use Rattle.bk_base.specs.declared.damages.Damage.{Damage}
 use Rattle.bk_session.specs.declared.outbox.Unread.{Unread}
 use Rattle.bk_session.specs.declared.outbox.Unread.TheVariants.{Sink, Memory, Read, Damaged}
 use Rattle.bk_store.specs.declared.errors.ReadError.{ReadError}
@@ -46,12 +47,16 @@ pub record IsValueOf (tells : Bool) (l : Lent) (value : List ℕ) : Type 0 where
 
 abbrev pub unread_of : ReadError → Unread
 unread_of read_failed = Read
-unread_of (is_damaged at file kept found) = Damaged file at kept found
+unread_of (is_damaged d) = Damaged d
+
+-- The record that was lent has another checksum than the one that was kept.
+abbrev pub IsDamageOf : Bool → Lent → Damage → Type 0
+IsDamageOf tells l d =
+    (d.file ≡ l.file) × (d.at ≡ l.at) × (d.kept ≢ d.found) × (d.kept ≡ l.crc) × (IsTrue tells → d.found ≡ check_of l.left)
 
 -- Why the value of a loan didn't come to the outbox, or not to the sink.
 abbrev pub IsUnread : Bool → Lent → Unread → Type 0
 IsUnread tells l Read = l.fallible ≡ true
-IsUnread tells l (Damaged file at kept found) =
-    (file ≡ l.file) × (at ≡ l.at) × (kept ≢ found) × (kept ≡ l.crc) × (IsTrue tells → found ≡ check_of l.left)
+IsUnread tells l (Damaged d) = IsDamageOf tells l d
 IsUnread tells l Memory = Unit {0}
 IsUnread tells l Sink = Unit {0}

@@ -19,7 +19,8 @@ use Rattle.bk_session.specs.Following.{Follows, own_context}
 use Rattle.bk_session.specs.Serving.{Tries}
 use Rattle.bk_store.specs.Events.{KeepsPast, clock_of}
 use Rattle.bk_store.specs.History.{kept_of}
-use Rattle.bk_store.specs.Loans.{Lent, check_of}
+use Rattle.bk_store.specs.Loans.{Lent}
+use Rattle.bk_session.specs.Outgoing.{IsDamageOf}
 use Rattle.bk_store.specs.Shown.{Shown}
 
 abbrev pub exchange_of : Request → Option Moment → List Step → List Reply → Exchange
@@ -50,7 +51,6 @@ RepliesOnce tells request now reply v u =
 abbrev pub IsGiven : Bool → Lent → Reply → Type 0
 IsGiven tells l (Value value) = IsTrue tells → value ≡ drop l.value_at l.left
 IsGiven tells l Read = l.fallible ≡ true
-IsGiven tells l (Damaged file at kept found) =
-    (file ≡ l.file) × (at ≡ l.at) × (kept ≢ found) × (kept ≡ l.crc) × (IsTrue tells → found ≡ check_of l.left)
+IsGiven tells l (Damaged d) = IsDamageOf tells l d
 IsGiven tells l Memory = Unit {0}
 IsGiven tells l reply = ⊥

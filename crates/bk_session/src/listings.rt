@@ -166,18 +166,6 @@ fn show_pair<K: Sink, V: View + Drop>(
         Err(Unread::Sink) => Given::Sink,
         Err(Unread::Memory) => Given::Line(Reply::Memory),
         Err(Unread::Read) => Given::Line(Reply::Read),
-        Err(
-            Unread::Damaged {
-                file,
-                at,
-                kept,
-                found,
-            },
-        ) => Given::Line(Reply::Damaged {
-            file,
-            at,
-            kept,
-            found,
-        }),
+        Err(Unread::Damaged(damage)) => Given::Line(Reply::Damaged(damage)),
     }
 }

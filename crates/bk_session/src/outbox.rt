@@ -6,7 +6,7 @@ ghost use Rattle.bk_disk.specs.Streams.{LeftOver, Wrote};
 ghost use Rattle.bk_laws.specs.Wire.{line, reply_text};
 ghost use Rattle.bk_session.specs.Outgoing.{IsUnread, IsValueOf, Moves, Sends, Stops, outgoing};
 
-use bk_base::{FileId, Key, Memory, Reply};
+use bk_base::{Damage, Key, Memory, Reply};
 use bk_disk::{Failed, Sink, View, write_all};
 use bk_store::{Loan, ReadError};
 use bk_wire::{write_pair_header, write_reply, write_value_header};
@@ -33,12 +33,7 @@ pub enum Unread {
     Sink,
     Memory,
     Read,
-    Damaged {
-        file: FileId,
-        at: u64,
-        kept: u32,
-        found: u32,
-    },
+    Damaged(Damage),
 }
 
 /// The text of the replies that wait to be written.
@@ -279,17 +274,7 @@ impl From<ReadError> for Unread {
     fn from(error: ReadError) -> Unread {
         match error {
             ReadError::Read => Unread::Read,
-            ReadError::Damaged {
-                at,
-                file,
-                kept,
-                found,
-            } => Unread::Damaged {
-                file,
-                at,
-                kept,
-                found,
-            },
+            ReadError::Damaged(damage) => Unread::Damaged(damage),
         }
     }
 }

@@ -47,22 +47,6 @@ pub(crate) fn send_value<K: Sink, V: View + Drop>(
         Err(Unread::Sink) => Onward::Sink,
         Err(Unread::Memory) => send(outbox, sink, &Reply::Memory),
         Err(Unread::Read) => send(outbox, sink, &Reply::Read),
-        Err(
-            Unread::Damaged {
-                file,
-                at,
-                kept,
-                found,
-            },
-        ) => send(
-            outbox,
-            sink,
-            &Reply::Damaged {
-                file,
-                at,
-                kept,
-                found,
-            },
-        ),
+        Err(Unread::Damaged(damage)) => send(outbox, sink, &Reply::Damaged(damage)),
     }
 }

@@ -22,7 +22,8 @@ use std::alloc::Global;
 
 /// Holds a session with the client behind a source and a sink, and says how it ended. It takes at most
 /// `most` bytes. The replies are written before it reads on, so that a client that waits gets its reply.
-/// What the store holds may be known only where the disk tells.
+/// What the store holds may be known only where the disk tells. Its appends aren't gathered, so it never ends by
+/// the disk.
 pub fn session<D: Disk, S: Source, K: Sink, C: Clock>(
     alloc: Global,
     store: &mut Store<D>,
@@ -38,6 +39,7 @@ pub fn session<D: Disk, S: Source, K: Sink, C: Clock>(
         (sides_of store.new (drop (S.taken source.new) (S.whole source.new)) (K.written sink.new)
         (C.moments clock.new)) result }
     ensures past { IsTrue D.tells → KeepsPast store.old.files.told store.new.files.told }
+    ensures no_flush { result ≡ SessionEnd.Disk → ⊥ }
     ensures whole { IsTrue S.tells → S.whole source.new ≡ S.whole source.old }
     ensures took { S.faults source.old ≤ S.faults source.new }
     ensures source { result ≡ SessionEnd.Source → Rose (S.faults source.old) (S.faults source.new) }
@@ -74,6 +76,7 @@ fn step<D: Disk, S: Source, K: Sink, C: Clock>(
     ensures fewer { result ≡ None → work_left inbox.new < work_left inbox.old }
     ensures most { inbox.new.most ≡ inbox.old.most }
     ensures past { IsTrue D.tells → KeepsPast store.old.files.told store.new.files.told }
+    ensures no_flush { result ≡ Some SessionEnd.Disk → ⊥ }
     ensures whole { IsTrue S.tells → S.whole source.new ≡ S.whole source.old }
     ensures took { S.faults source.old ≤ S.faults source.new }
     ensures source { result ≡ Some SessionEnd.Source → Rose (S.faults source.old) (S.faults source.new) }
@@ -108,6 +111,7 @@ fn read_on<S: Source, K: Sink>(
         inbox.new outbox.new }
     ensures fewer { result ≡ None → work_left inbox.new < work_left inbox.old }
     ensures most { inbox.new.most ≡ inbox.old.most }
+    ensures no_flush { result ≡ Some SessionEnd.Disk → ⊥ }
     ensures whole { IsTrue S.tells → S.whole source.new ≡ S.whole source.old }
     ensures took { S.faults source.old ≤ S.faults source.new }
     ensures source { result ≡ Some SessionEnd.Source → Rose (S.faults source.old) (S.faults source.new) }
@@ -138,6 +142,7 @@ fn read_more<S: Source, K: Sink>(
         inbox.new outbox.new }
     ensures fewer { result ≡ None → work_left inbox.new < work_left inbox.old }
     ensures most { inbox.new.most ≡ inbox.old.most }
+    ensures no_flush { result ≡ Some SessionEnd.Disk → ⊥ }
     ensures whole { IsTrue S.tells → S.whole source.new ≡ S.whole source.old }
     ensures took { S.faults source.old ≤ S.faults source.new }
     ensures source { result ≡ Some SessionEnd.Source → Rose (S.faults source.old) (S.faults source.new) }
@@ -164,6 +169,7 @@ fn close_after<K: Sink>(onward: Onward, sink: &mut K, outbox: &mut Outbox) -> Op
     ensures sink { result ≡ Some SessionEnd.Sink → (onward ≡ Onward.Sink → ⊥)
         → Rose (K.faults sink.old) (K.faults sink.new) }
     ensures not_source { result ≡ Some SessionEnd.Source → ⊥ }
+    ensures no_flush { result ≡ Some SessionEnd.Disk → ⊥ }
 {
     match onward {
         Onward::Next => None,

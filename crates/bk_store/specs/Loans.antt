@@ -89,8 +89,8 @@ get_reply (Some l) = Found (drop l.value_at l.left)
 -- Why a loan couldn't be read: its view's count rose, or the bytes that were read have another checksum.
 abbrev pub IsReadError : Bool → Lent → Lent → List ℕ → ReadError → Type 0
 IsReadError tells old new into Read = Rose old.faults new.faults
-IsReadError tells old new into (Damaged at file kept found) =
-    (at ≡ old.at) × (file ≡ old.file) × (kept ≡ old.crc) × (found ≡ check_of into) × (found ≡ kept → ⊥)
+IsReadError tells old new into (Damaged d) =
+    (d.at ≡ old.at) × (d.file ≡ old.file) × (d.kept ≡ old.crc) × (d.found ≡ check_of into) × (d.found ≡ d.kept → ⊥)
     × (IsTrue tells → into ≡ old.left)
 
 -- the version, where it is a put that is live

@@ -4,7 +4,7 @@ ghost use Rattle.bk_store.specs.declared.errors.PutError.TheVariants.{Memory as 
 ghost use Rattle.bk_store.specs.declared.errors.PrepareError.TheVariants.{Memory as prepare_memory};
 ghost use Rattle.bk_store.specs.declared.errors.FoldError.TheVariants.{Memory as fold_memory};
 
-use bk_base::{FileId, Memory};
+use bk_base::{Damage, Memory};
 use bk_disk::{DiskError, Failed};
 use bk_files::RollError;
 use std::alloc::AllocError;
@@ -61,12 +61,7 @@ pub enum ReadError {
     /// A read of the view failed, and the view counted it.
     Read,
     /// The record's bytes have another checksum than the one that was kept.
-    Damaged {
-        at: u64,
-        file: FileId,
-        kept: u32,
-        found: u32,
-    },
+    Damaged(Damage),
 }
 
 impl From<AllocError> for PrepareError {

@@ -10,7 +10,7 @@ ghost use Rattle.bk_store.specs.Loans.{IsReadError, LendsVersion, check_of};
 
 use crate::errors::{LocateError, ReadError};
 use bk_base::limits::{CHECKSUM, RECORD_HEADER};
-use bk_base::{FileId, Key, Version};
+use bk_base::{Damage, FileId, Key, Version};
 use bk_crc::crc32;
 use bk_disk::{Disk, View, read_exact};
 use bk_files::Files;
@@ -84,12 +84,12 @@ impl<V: View + Drop> Loan<V> {
         }
         let found = crc32(&into[CHECKSUM..]);
         if found != self.crc {
-            return Err(ReadError::Damaged {
+            return Err(ReadError::Damaged(Damage {
                 at: self.at,
                 file: self.file,
                 kept: self.crc,
                 found,
-            });
+            }));
         }
         Ok(())
     }

@@ -1,7 +1,7 @@
 //! The store.
 ghost use Rattle.std.specs.Prelude.{◌≡◌, [], None, List, IsTrue};
 ghost use Rattle.bk_base.specs.declared.writes.Write.{Write};
-ghost use Rattle.bk_files.specs.Files.{IsConsistentWith};
+ghost use Rattle.bk_files.specs.Files.{IsConsistentWith, disk_shown};
 ghost use Rattle.bk_store.specs.Standing.{StandsFor};
 ghost use Rattle.bk_store.specs.Starting.{AreFilesOf, IsInOrder, IsLoadOf, opening_of};
 
@@ -78,11 +78,8 @@ impl<D: Disk> Store<D> {
     /// disk is sound and was loaded as it is, the store stands for its log and no step.
     pub fn start(alloc: Global, disk: D, loaded: Loaded, settings: Settings) -> Store<D>
         requires order { IsInOrder loaded }
-        requires files { IsTrue D.tells → AreFilesOf (D.told disk) loaded }
-        ensures told { result.files.told ≡ D.told disk }
-        ensures faults { result.files.faults ≡ D.faults disk }
-        ensures views { result.files.fallible_views ≡ D.fallible_views disk }
-        ensures outs { result.files.fallible_outs ≡ D.fallible_outs disk }
+        requires files { IsTrue D.tells → AreFilesOf (D.shown disk).told loaded }
+        ensures shown { disk_shown result.files ≡ D.shown disk }
         ensures catalog { result.files.catalog ≡ record {
           rows = loaded.rows.items;
           active = None;
@@ -92,7 +89,7 @@ impl<D: Disk> Store<D> {
         ensures keys { result.keys ≡ loaded.keydir }
         ensures seq { result.seq ≡ loaded.last_seq.0 }
         ensures settings { result.settings ≡ settings }
-        ensures stands { IsTrue D.tells → (log : List Write) → IsLoadOf (D.told disk) loaded log
+        ensures stands { IsTrue D.tells → (log : List Write) → IsLoadOf (D.shown disk).told loaded log
             → StandsFor result (opening_of log result) [] [] }
     {
         let Loaded {
@@ -113,10 +110,7 @@ impl<D: Disk> Store<D> {
 
     /// The store's disk. It makes no disk call.
     pub fn close(self) -> D
-        ensures told { D.told result ≡ self.files.told }
-        ensures faults { D.faults result ≡ self.files.faults }
-        ensures views { D.fallible_views result ≡ self.files.fallible_views }
-        ensures outs { D.fallible_outs result ≡ self.files.fallible_outs }
+        ensures shown { D.shown result ≡ disk_shown self.files }
     {
         let Store {
             files,
@@ -130,10 +124,7 @@ impl<D: Disk> Store<D> {
 
     /// The store's disk, and the store without it. It makes no disk call.
     pub fn detach(self) -> (D, Detached)
-        ensures told { D.told result.0 ≡ self.files.told }
-        ensures faults { D.faults result.0 ≡ self.files.faults }
-        ensures views { D.fallible_views result.0 ≡ self.files.fallible_views }
-        ensures outs { D.fallible_outs result.0 ≡ self.files.fallible_outs }
+        ensures shown { D.shown result.0 ≡ disk_shown self.files }
         ensures rest { result.1 ≡ record {
           catalog = self.files.catalog;
           keys = self.keys;
@@ -141,7 +132,7 @@ impl<D: Disk> Store<D> {
           settings = self.settings;
           buffer = self.buffer;
         } }
-        ensures consistent { IsTrue D.tells → IsConsistentWith result.1.catalog (D.told result.0) }
+        ensures consistent { IsTrue D.tells → IsConsistentWith result.1.catalog (D.shown result.0).told }
     {
         let Store {
             files,
@@ -163,11 +154,8 @@ impl<D: Disk> Store<D> {
 
     /// The store over a disk, of which it knows what it knew of the one that it was detached from.
     pub fn attach(disk: D, detached: Detached) -> Store<D>
-        requires { IsTrue D.tells → IsConsistentWith detached.catalog (D.told disk) }
-        ensures told { result.files.told ≡ D.told disk }
-        ensures faults { result.files.faults ≡ D.faults disk }
-        ensures views { result.files.fallible_views ≡ D.fallible_views disk }
-        ensures outs { result.files.fallible_outs ≡ D.fallible_outs disk }
+        requires { IsTrue D.tells → IsConsistentWith detached.catalog (D.shown disk).told }
+        ensures shown { disk_shown result.files ≡ D.shown disk }
         ensures catalog { result.files.catalog ≡ detached.catalog }
         ensures keys { result.keys ≡ detached.keys }
         ensures seq { result.seq ≡ detached.seq }

@@ -132,7 +132,7 @@ make (line_word bye_line) x = Bye
 make (line_word memory_line) x = Memory
 make (line_word disk_line) x = Disk
 make (line_word read_line) x = Read
-make (line_word damaged_line) x = Damaged (record { 0 = x.0 }) x.1.0 x.1.1.0 x.1.1.1
+make (line_word damaged_line) x = Damaged (record { at = x.1.0; file = record { 0 = x.0 }; kept = x.1.1.0; found = x.1.1.1 })
 make (line_word cut_line) x = Cut (record { 0 = x.0 }) x.1.0 x.1.1
 make (line_word (full_line full)) x = Full full
 make (line_word syntax_line) x = Syntax x
@@ -153,7 +153,7 @@ word_of Bye = line_word bye_line
 word_of Memory = line_word memory_line
 word_of Disk = line_word disk_line
 word_of Read = line_word read_line
-word_of (Damaged file at kept found) = line_word damaged_line
+word_of (Damaged d) = line_word damaged_line
 word_of (Cut file total at) = line_word cut_line
 word_of (Full full) = line_word (full_line full)
 word_of (Syntax offset) = line_word syntax_line
@@ -174,7 +174,7 @@ field_of Bye = tt
 field_of Memory = tt
 field_of Disk = tt
 field_of Read = tt
-field_of (Damaged file at kept found) = (file.0, (at, (kept, found)))
+field_of (Damaged d) = (d.file.0, (d.at, (d.kept, d.found)))
 field_of (Cut file total at) = (file.0, (total, at))
 field_of (Full full) = tt
 field_of (Syntax offset) = offset
@@ -186,7 +186,7 @@ back _ = refl
 -- what a field must be is what its reply must be
 fields_fit : (r : Reply) → FitsReply r → (shape (word_of r)).fits (field_of r)
 fields_fit (Stat keys files total live) fit = (fit.0, (fit.1, (fit.2, fit.3)))
-fields_fit (Damaged file at kept found) fit = (fit.0, (fit.1, (fit.2, fit.3)))
+fields_fit (Damaged d) fit = (fit.0, (fit.1, (fit.2, fit.3)))
 fields_fit (Cut file total at) fit = (fit.0, (fit.1, fit.2))
 fields_fit _ fit = fit
 
@@ -247,8 +247,8 @@ unfolding reply_text
 whole_text (Merged inputs outputs) = two_numbers (codes "MERGED ") (decimal inputs) (decimal outputs)
 whole_text (Stat keys files total live) =
     four_numbers (codes "STAT ") (decimal keys) (decimal files) (decimal total) (decimal live)
-whole_text (Damaged file at kept found) =
-    four_numbers (codes "DAMAGED ") (decimal file.0) (decimal at) (hex_of 8 kept) (hex_of 8 found)
+whole_text (Damaged d) =
+    four_numbers (codes "DAMAGED ") (decimal d.file.0) (decimal d.at) (hex_of 8 d.kept) (hex_of 8 d.found)
 whole_text (Cut file total at) = three_numbers (codes "CUT ") (decimal file.0) (decimal total) (decimal at)
 whole_text (Pair key value) = behind_word (codes "PAIR ") (decimal (length key)) (decimal (length value)) (key ++ value)
 whole_text (Full Seq) = refl

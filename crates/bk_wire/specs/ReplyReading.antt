@@ -109,7 +109,7 @@ line_at memory_line bytes = Ok (Memory, bytes)
 line_at disk_line bytes = Ok (Disk, bytes)
 line_at read_line bytes = Ok (Read, bytes)
 line_at damaged_line bytes =
-    made (λ x. Damaged (record { 0 = x.0 }) x.1.0 x.1.1.0 x.1.1.1)
+    made (λ x. Damaged (record { at = x.1.0; file = record { 0 = x.0 }; kept = x.1.1.0; found = x.1.1.1 }))
     (both (short_at 32) (both (long_at 32) (both (hex_at 32) (hex_at 10))) bytes)
 line_at cut_line bytes =
     made (λ x. Cut (record { 0 = x.0 }) x.1.0 x.1.1) (both (short_at 32) (both (long_at 32) (long_at 10)) bytes)

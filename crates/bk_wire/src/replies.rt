@@ -1,10 +1,11 @@
 //! The texts of replies.
 ghost use Rattle.std.specs.Prelude.{◌≡◌, ◌≤◌, ◌++◌, ◌∷◌, [], length, OnOk, OnErr, codes};
+ghost use Rattle.bk_base.specs.declared.requests.Reply.TheVariants.{Damaged};
 ghost use Rattle.bk_laws.specs.Wire.{line, numbered, and_hex, and_number, full_word, reply_text, FitsReply};
 
 use crate::appending::{NUMBER_ROOM, append, append_number, reserve};
 use crate::digits::hex;
-use bk_base::{FileId, Full, Key, Memory, Reply, Seq};
+use bk_base::{Damage, FileId, Full, Key, Memory, Reply, Seq};
 
 /// Writes a text that is always the same.
 fn write_text(out: &mut Vec<u8>, text: &[u8]) -> Result<(), Memory>
@@ -148,18 +149,19 @@ fn write_stat(
 
 /// Writes where a record is damaged, the checksum that was kept of it and the one that it has.
 #[tactic(auto, using(std::proofs::lemmas::List::append_assoc))]
-fn write_damaged(out: &mut Vec<u8>, file: u32, at: u64, kept: u32, found: u32) -> Result<(), Memory>
+fn write_damaged(out: &mut Vec<u8>, damage: Damage) -> Result<(), Memory>
+    ensures fits { FitsReply (Damaged damage) }
     ensures ok { OnOk result (out.new.items ≡ out.old.items ++ line
-        (and_hex (and_hex (and_number (numbered (codes "DAMAGED ") file) at) kept) found)) }
+        (and_hex (and_hex (and_number (numbered (codes "DAMAGED ") damage.file.0) damage.at) damage.kept) damage.found)) }
     ensures err { OnErr result (out.new.items ≡ out.old.items) }
 {
     reserve(out, 8 + NUMBER_ROOM + NUMBER_ROOM + 9 + 9 + 1)?;
-    append_number(out, b"DAMAGED ", file.into());
-    append_number(out, b" ", at.into());
+    append_number(out, b"DAMAGED ", damage.file.0.into());
+    append_number(out, b" ", damage.at.into());
     append(out, b" ");
-    append(out, &hex(kept));
+    append(out, &hex(damage.kept));
     append(out, b" ");
-    append(out, &hex(found));
+    append(out, &hex(damage.found));
     append(out, b"\n");
     Ok(())
 }
@@ -206,12 +208,7 @@ pub fn write_reply(reply: &Reply, out: &mut Vec<u8>) -> Result<(), Memory>
         Reply::Memory => write_text(out, b"MEMORY\n"),
         Reply::Disk => write_text(out, b"DISK\n"),
         Reply::Read => write_text(out, b"READ\n"),
-        Reply::Damaged {
-            file,
-            at,
-            kept,
-            found,
-        } => write_damaged(out, file.0, *at, *kept, *found),
+        Reply::Damaged(damage) => write_damaged(out, *damage),
         Reply::Cut { file, total, at } => write_cut(out, file.0, *total, *at),
         Reply::Full(full) => write_full(out, *full),
         Reply::Syntax(offset) => write_number(out, b"SYNTAX ", (*offset).into()),

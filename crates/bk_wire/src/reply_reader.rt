@@ -13,7 +13,7 @@ use crate::owned::owned_value;
 use crate::stops::Stop;
 use crate::words::{Line, WORDS, Word, first_of};
 use bk_base::limits::{LONGEST_KEY, LONGEST_VALUE};
-use bk_base::{FileId, Key, Memory, Reply, Seq};
+use bk_base::{Damage, FileId, Key, Memory, Reply, Seq};
 use std::alloc::Global;
 
 /// A reply that was read, and how many bytes it has.
@@ -97,14 +97,13 @@ fn damaged(bytes: &[u8]) -> ReadLine<'_>
     let (at, rest) = long(b' ', rest)?;
     let (kept, rest) = hexadecimal(b' ', rest)?;
     let (found, rest) = hexadecimal(b'\n', rest)?;
-    let file = FileId(file);
-    let reply = Reply::Damaged {
-        file,
+    let damage = Damage {
         at,
+        file: FileId(file),
         kept,
         found,
     };
-    Ok((reply, rest))
+    Ok((Reply::Damaged(damage), rest))
 }
 
 fn cut(bytes: &[u8]) -> ReadLine<'_>

@@ -2,7 +2,7 @@
 ghost use Rattle.std.specs.Prelude.{◌≡◌};
 ghost use Rattle.bk_script.specs.Script.{taken};
 
-use bk_base::{FileId, Full, Key, Seq, Value};
+use bk_base::{Damage, FileId, Full, Key, Seq, Value};
 use bk_script::{Next, Printed, Reader, write_line};
 use std::alloc::Global;
 use std::io::Write as _;
@@ -308,12 +308,12 @@ fn writes_what_a_drill_prints(rt: HostRuntime) {
         Printed::Memory,
         Printed::Disk,
         Printed::Read,
-        Printed::Damaged {
-            file: FileId(1),
+        Printed::Damaged(Damage {
             at: 24,
+            file: FileId(1),
             kept: 0,
             found: 0xcbf4_3926,
-        },
+        }),
         Printed::Full(Full::Folds),
         Printed::NoFold(255),
         Printed::Syntax(18_446_744_073_709_551_615),

@@ -90,15 +90,18 @@ impl Disk for SilentDisk {
 
     ghost tells = { false };
 
-    ghost told = { λ _. nothing_told };
+    ghost shown = { λ d. record {
+      told = nothing_told;
+      faults = d.faults;
+      views = d.fallible_views;
+      outs = d.fallible_outs;
+    } };
 
     ghost room = { λ _ _. 18446744073709551615 };
 
-    ghost faults = { λ d. d.faults };
+    ghost gathers = { false };
 
-    ghost fallible_views = { λ d. d.fallible_views };
-
-    ghost fallible_outs = { λ d. d.fallible_outs };
+    ghost failed_flushes = { λ _. 0 };
 
     ghost well = { λ _ h. untold h };
 
@@ -157,14 +160,18 @@ impl Disk for SilentDisk {
     fn remove(&mut self, _name: Name) -> Result<(), DiskError> {
         Ok(())
     }
+
+    fn flush(&mut self) -> Result<(), Failed> {
+        Ok(())
+    }
 }
 
 // Makes a file of these bytes and syncs it.
 fn store<D: Disk>(disk: &mut D, name: Name, bytes: &[u8]) -> Result<(), DiskError>
-    requires { IsTrue D.tells → IsAbsent name (D.told disk.old).image }
-    ensures stored { IsTrue D.tells → OnOk result (bytes_of name (D.told disk.new).image ≡ bytes.now) }
-    ensures cause { HasCause (D.faults disk.old) (D.faults disk.new) result }
-    ensures views { D.fallible_views disk.new ≡ D.fallible_views disk.old }
+    requires { IsTrue D.tells → IsAbsent name (D.shown disk.old).told.image }
+    ensures stored { IsTrue D.tells → OnOk result (bytes_of name (D.shown disk.new).told.image ≡ bytes.now) }
+    ensures cause { HasCause (D.shown disk.old).faults (D.shown disk.new).faults result }
+    ensures views { (D.shown disk.new).views ≡ (D.shown disk.old).views }
 {
     disk.create(name)?;
     disk.ready(name, bytes.len() as u64)?;
@@ -175,8 +182,8 @@ fn store<D: Disk>(disk: &mut D, name: Name, bytes: &[u8]) -> Result<(), DiskErro
 
 // The first bytes of a file, as many as `into` has.
 fn load<D: Disk>(disk: &mut D, name: Name, into: &mut [u8]) -> Result<usize, DiskError>
-    ensures cause { IsErrOf result DiskError.Failed → Rose (D.faults disk.old) (D.faults disk.new)
-        ⊎ Rose (D.fallible_views disk.old) (D.fallible_views disk.new) }
+    ensures cause { IsErrOf result DiskError.Failed → Rose (D.shown disk.old).faults (D.shown disk.new).faults
+        ⊎ Rose (D.shown disk.old).views (D.shown disk.new).views }
 {
     let mut view = disk.view(name, 0, into.len() as u64)?;
     Ok(view.read(into)?)

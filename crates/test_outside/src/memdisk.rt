@@ -114,7 +114,7 @@ fn all_calls_fail_behind_the_last_one(rt: HostRuntime) {
 
 // A new file of two appends, of which the second isn't synced.
 fn write<D: Disk>(disk: &mut D, name: Name, synced: &[u8], unsynced: &[u8]) -> Result<(), DiskError>
-    requires { IsTrue D.tells → IsAbsent name (D.told disk.old).image }
+    requires { IsTrue D.tells → IsAbsent name (D.shown disk.old).told.image }
 {
     disk.create(name)?;
     disk.ready(name, synced.len() as u64)?;

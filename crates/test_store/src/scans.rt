@@ -140,7 +140,7 @@ fn all_of<V: View>(rt: &impl Abort, scan: &mut Scan, alloc: Global, view: &mut V
 // All records of a file of any disk.
 fn all_in<D: Disk>(rt: &impl Abort, disk: &mut D, alloc: Global, name: Name, len: u64) -> Vec<Write>
     ensures { IsTrue D.tells →
-        AreRecords (range_of name 0 len (D.told disk.old).image) result.items }
+        AreRecords (range_of name 0 len (D.shown disk.old).told.image) result.items }
 {
     let mut view = disk.view(name, 0, len).expect(rt, "viewed");
     let mut scan = Scan::new(alloc, FileId(name.id), len);

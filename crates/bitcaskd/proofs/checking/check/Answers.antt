@@ -1,6 +1,6 @@
 use Rattle.std.proofs.Common.{arith, length, refl, sym, subst}
+use Rattle.bk_disk.specs.Shown.{DiskShown}
 use Rattle.bk_disk.specs.Told.{bytes_of}
-use Rattle.bk_load.specs.Courses.{Seen}
 use Rattle.bk_load.specs.SettingsFile.{settings_file}
 use Rattle.bk_load.specs.Tidying.{NoneLent}
 use Rattle.bitcaskd.specs.Opening.{of_settings}
@@ -14,24 +14,13 @@ report_directory-report-requires g c = λ tells. subst NoneLent (sym (c.settings
 
 pub returns-in-Ok : goal.returns-in-Ok
 returns-in-Ok g c = λ source clock whole taken moments.
-    let was : Seen = record {
-      told = g.D.Disk.told c.args.disk;
-      faults = g.D.Disk.faults c.args.disk;
-      views = g.D.Disk.fallible_views c.args.disk;
-      outs = g.D.Disk.fallible_outs c.args.disk;
-    } in
-    let mid : Seen = record {
-      told = g.D.Disk.told c.settings.new.disk;
-      faults = g.D.Disk.faults c.settings.new.disk;
-      views = g.D.Disk.fallible_views c.settings.new.disk;
-      outs = g.D.Disk.fallible_outs c.settings.new.disk;
-    } in
+    let was : DiskShown = g.D.Disk.shown c.args.disk in
+    let mid : DiskShown = g.D.Disk.shown c.settings.new.disk in
     let tells : Telling = telling g.D.Disk.tells source g.K.Sink.tells clock in
-    let old : Outside = outside was.told was.faults was.views was.outs whole taken (g.K.Sink.written c.args.sink.now)
+    let old : Outside = outside was whole taken (g.K.Sink.written c.args.sink.now)
     (g.K.Sink.faults c.args.sink.now) moments in
     let last = c.report_directory-report.new.disk in
-    let new : Outside = outside (g.D.Disk.told last) (g.D.Disk.faults last) (g.D.Disk.fallible_views last)
-    (g.D.Disk.fallible_outs last) whole taken (g.K.Sink.written c.report_directory-report.new.sink)
+    let new : Outside = outside (g.D.Disk.shown last) whole taken (g.K.Sink.written c.report_directory-report.new.sink)
     (g.K.Sink.faults c.report_directory-report.new.sink) moments in
     let len = length (bytes_of settings_file was.told.image) in
     rw c.of_report.ensures
@@ -55,23 +44,13 @@ returns-in-Ok g c = λ source clock whole taken moments.
 
 pub returns-in-Err : goal.returns-in-Err
 returns-in-Err g c = λ source clock whole taken moments.
-    let was : Seen = record {
-      told = g.D.Disk.told c.args.disk;
-      faults = g.D.Disk.faults c.args.disk;
-      views = g.D.Disk.fallible_views c.args.disk;
-      outs = g.D.Disk.fallible_outs c.args.disk;
-    } in
-    let now : Seen = record {
-      told = g.D.Disk.told c.settings.new.disk;
-      faults = g.D.Disk.faults c.settings.new.disk;
-      views = g.D.Disk.fallible_views c.settings.new.disk;
-      outs = g.D.Disk.fallible_outs c.settings.new.disk;
-    } in
+    let was : DiskShown = g.D.Disk.shown c.args.disk in
+    let now : DiskShown = g.D.Disk.shown c.settings.new.disk in
     let tells : Telling = telling g.D.Disk.tells source g.K.Sink.tells clock in
     let written = g.K.Sink.written c.args.sink.now in
     let faults = g.K.Sink.faults c.args.sink.now in
-    let old : Outside = outside was.told was.faults was.views was.outs whole taken written faults moments in
-    let new : Outside = outside now.told now.faults now.views now.outs whole taken written faults moments in
+    let old : Outside = outside was whole taken written faults moments in
+    let new : Outside = outside now whole taken written faults moments in
     rw c.of_settings.ensures
     (refused_checks tells old new (of_settings c.in-Err.error)
     (no_settings g.D.Disk.tells was now c.in-Err.error

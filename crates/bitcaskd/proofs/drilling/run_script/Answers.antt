@@ -6,7 +6,7 @@ use Rattle.bitcaskd.proofs.DrillingLaws.{drill_ends, sink_ends, source_ends}
 use Rattle.bitcaskd.proofs.drilling.run_script.Goals as goal
 
 pub returns-clause-ran : goal.returns-clause-ran
-returns-clause-ran g c = λ disk clock told faults views outs moments. record {
+returns-clause-ran g c = λ told clock disk moments. record {
   end = c.drill-end.result;
   is_status = c.of_drill.ensures;
   drill = c.drill-end.ensures.drill;

@@ -1,6 +1,6 @@
 use Rattle.std.proofs.Common.{length, sym, subst}
+use Rattle.bk_disk.specs.Shown.{DiskShown}
 use Rattle.bk_disk.specs.Told.{bytes_of}
-use Rattle.bk_load.specs.Courses.{Seen}
 use Rattle.bk_load.specs.SettingsFile.{settings_file}
 use Rattle.bk_load.specs.Tidying.{NoneLent}
 use Rattle.bitcaskd.proofs.OpeningLaws.{holds_still, no_settings, not_opened, opens_by, settings_came}
@@ -11,18 +11,8 @@ open-requires g c = λ tells. subst NoneLent (sym (c.settings.ensures.asked tell
 
 pub returns-in-Err-clause-refused : goal.returns-in-Err-clause-refused
 returns-in-Err-clause-refused g c =
-    let was : Seen = record {
-      told = g.D.Disk.told c.args.disk;
-      faults = g.D.Disk.faults c.args.disk;
-      views = g.D.Disk.fallible_views c.args.disk;
-      outs = g.D.Disk.fallible_outs c.args.disk;
-    } in
-    let now : Seen = record {
-      told = g.D.Disk.told c.settings.new.disk;
-      faults = g.D.Disk.faults c.settings.new.disk;
-      views = g.D.Disk.fallible_views c.settings.new.disk;
-      outs = g.D.Disk.fallible_outs c.settings.new.disk;
-    } in
+    let was : DiskShown = g.D.Disk.shown c.args.disk in
+    let now : DiskShown = g.D.Disk.shown c.settings.new.disk in
     rw c.of_settings.ensures
     (no_settings g.D.Disk.tells was now c.in-Err.error
     (settings_came g.D.Disk.tells was now (length (bytes_of settings_file was.told.image)) _ c.in-Err.ensures.loads c.in-Err.ensures.asked)
@@ -30,18 +20,8 @@ returns-in-Err-clause-refused g c =
 
 pub returns-in-Ok-open-clause-opens : goal.returns-in-Ok-open-clause-opens
 returns-in-Ok-open-clause-opens g c =
-    let was : Seen = record {
-      told = g.D.Disk.told c.args.disk;
-      faults = g.D.Disk.faults c.args.disk;
-      views = g.D.Disk.fallible_views c.args.disk;
-      outs = g.D.Disk.fallible_outs c.args.disk;
-    } in
-    let now : Seen = record {
-      told = g.D.Disk.told c.settings.new.disk;
-      faults = g.D.Disk.faults c.settings.new.disk;
-      views = g.D.Disk.fallible_views c.settings.new.disk;
-      outs = g.D.Disk.fallible_outs c.settings.new.disk;
-    } in
+    let was : DiskShown = g.D.Disk.shown c.args.disk in
+    let now : DiskShown = g.D.Disk.shown c.settings.new.disk in
     opens_by g.D.Disk.tells was now c.in-Ok-open.store c.in-Ok.settings
     (settings_came g.D.Disk.tells was now (length (bytes_of settings_file was.told.image)) _ c.settings.ensures.loads c.settings.ensures.asked)
     (λ t log. holds_still (length (bytes_of settings_file was.told.image)) was.told now.told log
@@ -51,25 +31,10 @@ returns-in-Ok-open-clause-opens g c =
 
 pub returns-in-Err-open-clause-refused : goal.returns-in-Err-open-clause-refused
 returns-in-Err-open-clause-refused g c =
-    let was : Seen = record {
-      told = g.D.Disk.told c.args.disk;
-      faults = g.D.Disk.faults c.args.disk;
-      views = g.D.Disk.fallible_views c.args.disk;
-      outs = g.D.Disk.fallible_outs c.args.disk;
-    } in
-    let now : Seen = record {
-      told = g.D.Disk.told c.settings.new.disk;
-      faults = g.D.Disk.faults c.settings.new.disk;
-      views = g.D.Disk.fallible_views c.settings.new.disk;
-      outs = g.D.Disk.fallible_outs c.settings.new.disk;
-    } in
+    let was : DiskShown = g.D.Disk.shown c.args.disk in
+    let now : DiskShown = g.D.Disk.shown c.settings.new.disk in
     rw c.of_open.ensures
     (not_opened g.D.Disk.tells was now
-    (record {
-      told = g.D.Disk.told c.in-Err-open.disk;
-      faults = g.D.Disk.faults c.in-Err-open.disk;
-      views = g.D.Disk.fallible_views c.in-Err-open.disk;
-      outs = g.D.Disk.fallible_outs c.in-Err-open.disk;
-    }) c.in-Err-open.error
+    (g.D.Disk.shown c.in-Err-open.disk) c.in-Err-open.error
     (settings_came g.D.Disk.tells was now (length (bytes_of settings_file was.told.image)) _ c.settings.ensures.loads c.settings.ensures.asked)
     c.in-Err-open.ensures.refused)

@@ -1,27 +1,17 @@
 use Rattle.std.proofs.Common.{inl, inr, refl}
 use Rattle.bk_base.specs.declared.statuses.Status.TheVariants.{Disk, Source, Sink}
-use Rattle.bk_load.specs.Courses.{Seen}
+use Rattle.bk_disk.specs.Shown.{DiskShown}
 use Rattle.bitcaskd.proofs.OpeningLaws.{caused, keeps_log, refused_ends, rose_in_run, views_in_run}
 use Rattle.bitcaskd.proofs.run.over_disk.Goals as goal
 
 pub returns-in-Ok-clause-ran : goal.returns-in-Ok-clause-ran
 returns-in-Ok-clause-ran g c =
-    let was : Seen = record {
-      told = g.D.Disk.told c.args.disk;
-      faults = g.D.Disk.faults c.args.disk;
-      views = g.D.Disk.fallible_views c.args.disk;
-      outs = g.D.Disk.fallible_outs c.args.disk;
-    } in
+    let was : DiskShown = g.D.Disk.shown c.args.disk in
     inr (c.over_store.ensures.ran was c.in-Ok.ensures.opens)
 
 pub returns-in-Ok-clause-disk : goal.returns-in-Ok-clause-disk
 returns-in-Ok-clause-disk g c = λ is.
-    let was : Seen = record {
-      told = g.D.Disk.told c.args.disk;
-      faults = g.D.Disk.faults c.args.disk;
-      views = g.D.Disk.fallible_views c.args.disk;
-      outs = g.D.Disk.fallible_outs c.args.disk;
-    } in
+    let was : DiskShown = g.D.Disk.shown c.args.disk in
     elim (c.over_store.ensures.disk is) [
       | inl rose ↦ inl (rose_in_run g.D.Disk.tells was c.in-Ok.store _ c.in-Ok.ensures.opens rose)
       | inr rose ↦ inr (views_in_run g.D.Disk.tells was c.in-Ok.store _ c.in-Ok.ensures.opens rose)
@@ -30,7 +20,7 @@ returns-in-Ok-clause-disk g c = λ is.
 pub returns-in-Err-clause-ran : goal.returns-in-Err-clause-ran
 returns-in-Err-clause-ran g c = inl (record {
   is_refused = c.in-Err.ensures.refused;
-  keeps = λ t log sound. keeps_log (g.D.Disk.told c.args.disk) (g.D.Disk.told c.in-Err.disk) log
+  keeps = λ t log sound. keeps_log (g.D.Disk.shown c.args.disk).told (g.D.Disk.shown c.in-Err.disk).told log
       (c.in-Err.ensures.refused.came.goes t) (g.met.D.Disk.well c.in-Err.disk t) sound;
   whole = refl;
   taken = refl;

@@ -10,12 +10,10 @@ use Rattle.bitcaskd.proofs.run.run.Goals as goal
 pub returns-in-Some-Check-clause-ends : goal.returns-in-Some-Check-clause-ends
 returns-in-Some-Check-clause-ends g c = λ command asked.
     let tells : Telling = telling g.D.Disk.tells g.S.Source.tells g.K.Sink.tells g.C.Clock.tells in
-    let old : Outside = outside (g.D.Disk.told c.args.disk) (g.D.Disk.faults c.args.disk) (g.D.Disk.fallible_views c.args.disk)
-    (g.D.Disk.fallible_outs c.args.disk) (g.S.Source.whole c.args.source.now) (g.S.Source.taken c.args.source.now)
+    let old : Outside = outside (g.D.Disk.shown c.args.disk) (g.S.Source.whole c.args.source.now) (g.S.Source.taken c.args.source.now)
     (g.K.Sink.written c.args.sink.now) (g.K.Sink.faults c.args.sink.now) (g.C.Clock.moments c.args.clock.now) in
     let last = c.check.result.disk in
-    let new : Outside = outside (g.D.Disk.told last) (g.D.Disk.faults last) (g.D.Disk.fallible_views last)
-    (g.D.Disk.fallible_outs last) (g.S.Source.whole c.args.source.now) (g.S.Source.taken c.args.source.now)
+    let new : Outside = outside (g.D.Disk.shown last) (g.S.Source.whole c.args.source.now) (g.S.Source.taken c.args.source.now)
     (g.K.Sink.written c.check.new.sink) (g.K.Sink.faults c.check.new.sink) (g.C.Clock.moments c.args.clock.now) in
     let checks =
     c.check.ensures g.S.Source.tells g.C.Clock.tells (g.S.Source.whole c.args.source.now) (g.S.Source.taken c.args.source.now)
@@ -28,12 +26,10 @@ returns-in-Some-Check-clause-ends g c = λ command asked.
 pub returns-in-Some-Check-clause-disk : goal.returns-in-Some-Check-clause-disk
 returns-in-Some-Check-clause-disk g c = λ is.
     let tells : Telling = telling g.D.Disk.tells g.S.Source.tells g.K.Sink.tells g.C.Clock.tells in
-    let old : Outside = outside (g.D.Disk.told c.args.disk) (g.D.Disk.faults c.args.disk) (g.D.Disk.fallible_views c.args.disk)
-    (g.D.Disk.fallible_outs c.args.disk) (g.S.Source.whole c.args.source.now) (g.S.Source.taken c.args.source.now)
+    let old : Outside = outside (g.D.Disk.shown c.args.disk) (g.S.Source.whole c.args.source.now) (g.S.Source.taken c.args.source.now)
     (g.K.Sink.written c.args.sink.now) (g.K.Sink.faults c.args.sink.now) (g.C.Clock.moments c.args.clock.now) in
     let last = c.check.result.disk in
-    let new : Outside = outside (g.D.Disk.told last) (g.D.Disk.faults last) (g.D.Disk.fallible_views last)
-    (g.D.Disk.fallible_outs last) (g.S.Source.whole c.args.source.now) (g.S.Source.taken c.args.source.now)
+    let new : Outside = outside (g.D.Disk.shown last) (g.S.Source.whole c.args.source.now) (g.S.Source.taken c.args.source.now)
     (g.K.Sink.written c.check.new.sink) (g.K.Sink.faults c.check.new.sink) (g.C.Clock.moments c.args.clock.now) in
     let checks =
     c.check.ensures g.S.Source.tells g.C.Clock.tells (g.S.Source.whole c.args.source.now) (g.S.Source.taken c.args.source.now)
@@ -43,12 +39,10 @@ returns-in-Some-Check-clause-disk g c = λ is.
 pub returns-in-Some-Check-clause-source : goal.returns-in-Some-Check-clause-source
 returns-in-Some-Check-clause-source g c = λ is.
     let tells : Telling = telling g.D.Disk.tells g.S.Source.tells g.K.Sink.tells g.C.Clock.tells in
-    let old : Outside = outside (g.D.Disk.told c.args.disk) (g.D.Disk.faults c.args.disk) (g.D.Disk.fallible_views c.args.disk)
-    (g.D.Disk.fallible_outs c.args.disk) (g.S.Source.whole c.args.source.now) (g.S.Source.taken c.args.source.now)
+    let old : Outside = outside (g.D.Disk.shown c.args.disk) (g.S.Source.whole c.args.source.now) (g.S.Source.taken c.args.source.now)
     (g.K.Sink.written c.args.sink.now) (g.K.Sink.faults c.args.sink.now) (g.C.Clock.moments c.args.clock.now) in
     let last = c.check.result.disk in
-    let new : Outside = outside (g.D.Disk.told last) (g.D.Disk.faults last) (g.D.Disk.fallible_views last)
-    (g.D.Disk.fallible_outs last) (g.S.Source.whole c.args.source.now) (g.S.Source.taken c.args.source.now)
+    let new : Outside = outside (g.D.Disk.shown last) (g.S.Source.whole c.args.source.now) (g.S.Source.taken c.args.source.now)
     (g.K.Sink.written c.check.new.sink) (g.K.Sink.faults c.check.new.sink) (g.C.Clock.moments c.args.clock.now) in
     let checks =
     c.check.ensures g.S.Source.tells g.C.Clock.tells (g.S.Source.whole c.args.source.now) (g.S.Source.taken c.args.source.now)
@@ -58,12 +52,10 @@ returns-in-Some-Check-clause-source g c = λ is.
 pub returns-in-Some-Check-clause-sink : goal.returns-in-Some-Check-clause-sink
 returns-in-Some-Check-clause-sink g c = λ is.
     let tells : Telling = telling g.D.Disk.tells g.S.Source.tells g.K.Sink.tells g.C.Clock.tells in
-    let old : Outside = outside (g.D.Disk.told c.args.disk) (g.D.Disk.faults c.args.disk) (g.D.Disk.fallible_views c.args.disk)
-    (g.D.Disk.fallible_outs c.args.disk) (g.S.Source.whole c.args.source.now) (g.S.Source.taken c.args.source.now)
+    let old : Outside = outside (g.D.Disk.shown c.args.disk) (g.S.Source.whole c.args.source.now) (g.S.Source.taken c.args.source.now)
     (g.K.Sink.written c.args.sink.now) (g.K.Sink.faults c.args.sink.now) (g.C.Clock.moments c.args.clock.now) in
     let last = c.check.result.disk in
-    let new : Outside = outside (g.D.Disk.told last) (g.D.Disk.faults last) (g.D.Disk.fallible_views last)
-    (g.D.Disk.fallible_outs last) (g.S.Source.whole c.args.source.now) (g.S.Source.taken c.args.source.now)
+    let new : Outside = outside (g.D.Disk.shown last) (g.S.Source.whole c.args.source.now) (g.S.Source.taken c.args.source.now)
     (g.K.Sink.written c.check.new.sink) (g.K.Sink.faults c.check.new.sink) (g.C.Clock.moments c.args.clock.now) in
     let checks =
     c.check.ensures g.S.Source.tells g.C.Clock.tells (g.S.Source.whole c.args.source.now) (g.S.Source.taken c.args.source.now)

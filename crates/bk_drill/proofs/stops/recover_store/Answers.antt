@@ -1,4 +1,5 @@
 use Rattle.std.proofs.Common.{◌∙◌, ap, refl}
+use Rattle.bk_disk.specs.Shown.{DiskShown}
 use Rattle.bk_files.specs.Catalog.{Known}
 use Rattle.bk_memdisk.specs.Disk.{told_by}
 use Rattle.bk_memdisk.specs.Plans.{counted_to}
@@ -16,7 +17,7 @@ returns c =
       keys = c.stat-keys.result.keys;
       plan = c.count_to.new.self;
     })
-    c.stat-keys.ensures.same c.start-store.ensures.told (ap (λ (k : Known). k.max_file) c.start-store.ensures.catalog)
+    c.stat-keys.ensures.same (ap (λ (x : DiskShown). x.told) c.start-store.ensures.shown) (ap (λ (k : Known). k.max_file) c.start-store.ensures.catalog)
     c.start-store.ensures.keys c.start-store.ensures.seq c.start-store.ensures.settings c.in-Ok.ensures.order
     (c.in-Ok.ensures.loaded refl) (c.in-Ok.ensures.course.came.goes refl).tidied
     (ap (λ (k : Known). k.last) c.start-store.ensures.catalog) (c.in-Ok.ensures.last_file refl) c.stat-keys.ensures.stat refl

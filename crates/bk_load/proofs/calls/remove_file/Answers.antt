@@ -9,16 +9,16 @@ pub returns-clause-course : goal.returns-clause-course
 returns-clause-course g c =
     rw c.opened.ensures
     (course_opened _ _ _ c.remove.result c.remove.ensures.cause c.remove.ensures.views c.remove.ensures.outs
-    (λ tells. result_goes c.remove.result (g.D.Disk.told c.args.disk.now) (g.D.Disk.told c.remove.new.self)
-    (Removed c.args.name (g.D.Disk.told c.args.disk.now) (g.D.Disk.told c.remove.new.self))
-    (removed_goes c.args.name (g.D.Disk.told c.args.disk.now) (g.D.Disk.told c.remove.new.self)
+    (λ tells. result_goes c.remove.result (g.D.Disk.shown c.args.disk.now).told (g.D.Disk.shown c.remove.new.self).told
+    (Removed c.args.name (g.D.Disk.shown c.args.disk.now).told (g.D.Disk.shown c.remove.new.self).told)
+    (removed_goes c.args.name (g.D.Disk.shown c.args.disk.now).told (g.D.Disk.shown c.remove.new.self).told
     (g.met.D.Disk.well c.args.disk.now tells) (c.requires tells))
     (c.remove.ensures.removed tells) (c.remove.ensures.err tells)))
 
 pub returns-clause-gone : goal.returns-clause-gone
 returns-clause-gone g c = λ tells.
     rw c.opened.ensures
-    (ok_opened c.remove.result (Removed c.args.name (g.D.Disk.told c.args.disk.now) (g.D.Disk.told c.remove.new.self))
-    (LacksOnly c.args.name (at (g.D.Disk.told c.args.disk.now).image) (at (g.D.Disk.told c.remove.new.self).image))
-    (removed_lacks c.args.name (g.D.Disk.told c.args.disk.now) (g.D.Disk.told c.remove.new.self)
+    (ok_opened c.remove.result (Removed c.args.name (g.D.Disk.shown c.args.disk.now).told (g.D.Disk.shown c.remove.new.self).told)
+    (LacksOnly c.args.name (at (g.D.Disk.shown c.args.disk.now).told.image) (at (g.D.Disk.shown c.remove.new.self).told.image))
+    (removed_lacks c.args.name (g.D.Disk.shown c.args.disk.now).told (g.D.Disk.shown c.remove.new.self).told
     (g.met.D.Disk.well c.args.disk.now tells)) (c.remove.ensures.removed tells))

@@ -13,9 +13,9 @@ pub returns-clause-course : goal.returns-clause-course
 returns-clause-course g c =
     rw c.opened.ensures
     (course_opened _ _ _ c.rename.result c.rename.ensures.cause c.rename.ensures.views c.rename.ensures.outs
-    (λ tells. result_goes c.rename.result (g.D.Disk.told c.args.disk.now) (g.D.Disk.told c.rename.new.self)
-    (Renamed (main_temp c.args.file.0) (main c.args.file.0) (g.D.Disk.told c.args.disk.now) (g.D.Disk.told c.rename.new.self))
-    (renamed_goes c.args.file.0 (g.D.Disk.told c.args.disk.now) (g.D.Disk.told c.rename.new.self)
+    (λ tells. result_goes c.rename.result (g.D.Disk.shown c.args.disk.now).told (g.D.Disk.shown c.rename.new.self).told
+    (Renamed (main_temp c.args.file.0) (main c.args.file.0) (g.D.Disk.shown c.args.disk.now).told (g.D.Disk.shown c.rename.new.self).told)
+    (renamed_goes c.args.file.0 (g.D.Disk.shown c.args.disk.now).told (g.D.Disk.shown c.rename.new.self).told
     (g.met.D.Disk.well c.args.disk.now tells) (c.requires tells))
     (c.rename.ensures.renamed tells) (c.rename.ensures.err tells)))
 
@@ -23,7 +23,7 @@ pub returns-clause-named : goal.returns-clause-named
 returns-clause-named g c = λ tells.
     rw c.opened.ensures
     (ok_opened c.rename.result
-    (Renamed (main_temp c.args.file.0) (main c.args.file.0) (g.D.Disk.told c.args.disk.now) (g.D.Disk.told c.rename.new.self))
-    (HasTakenName c.args.file.0 (at (g.D.Disk.told c.args.disk.now).image) (at (g.D.Disk.told c.rename.new.self).image))
-    (renamed_named c.args.file.0 (g.D.Disk.told c.args.disk.now) (g.D.Disk.told c.rename.new.self)
+    (Renamed (main_temp c.args.file.0) (main c.args.file.0) (g.D.Disk.shown c.args.disk.now).told (g.D.Disk.shown c.rename.new.self).told)
+    (HasTakenName c.args.file.0 (at (g.D.Disk.shown c.args.disk.now).told.image) (at (g.D.Disk.shown c.rename.new.self).told.image))
+    (renamed_named c.args.file.0 (g.D.Disk.shown c.args.disk.now).told (g.D.Disk.shown c.rename.new.self).told
     (g.met.D.Disk.well c.args.disk.now tells) (c.requires tells)) (c.rename.ensures.renamed tells))

@@ -10,9 +10,9 @@ pub returns-clause-course : goal.returns-clause-course
 returns-clause-course g c =
     rw c.opened.ensures
     (course_viewed _ _ _ c.view.result c.view.ensures.cause
-    (views_later g.D.View.View.fallible c.view.result (g.D.Disk.fallible_views c.args.disk.now) (g.D.Disk.fallible_views c.view.new.self)
+    (views_later g.D.View.View.fallible c.view.result (g.D.Disk.shown c.args.disk.now).views (g.D.Disk.shown c.view.new.self).views
     (g.met.D.Disk.most_views c.args.disk.now) c.view.ensures.views c.view.ensures.no_view)
     c.view.ensures.outs
-    (λ tells. subst (λ (t : Told). Goes (g.D.Disk.told c.args.disk.now) t) (sym (c.view.ensures.told tells))
-    (viewed_goes (is_ok c.view.result) c.args.name c.args.from c.args.len (g.D.Disk.told c.args.disk.now)
+    (λ tells. subst (λ (t : Told). Goes (g.D.Disk.shown c.args.disk.now).told t) (sym (c.view.ensures.told tells))
+    (viewed_goes (is_ok c.view.result) c.args.name c.args.from c.args.len (g.D.Disk.shown c.args.disk.now).told
     (c.requires tells).within (c.requires tells).needed)))

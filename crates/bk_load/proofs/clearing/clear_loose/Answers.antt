@@ -13,14 +13,14 @@ use Rattle.bk_load.proofs.clearing.clear_loose.Goals.{then-is_loose+in_ok-remove
 pub loop-file-init : goal.loop-file-init
 loop-file-init g c = record {
   came = c.list_files.ensures.course.came;
-  cleared = λ tells. cleared_none (g.D.Disk.told c.args.disk.now).image (g.D.Disk.told c.list_files.new.disk).image
+  cleared = λ tells. cleared_none (g.D.Disk.shown c.args.disk.now).told.image (g.D.Disk.shown c.list_files.new.disk).told.image
       (ap (λ (t : Told). t.image) (c.list_files.ensures.told tells));
 }
 
 pub remove_file-requires : goal.remove_file-requires
 remove_file-requires g c = λ tells.
-    let image = (g.D.Disk.told c.args.disk.now).image in
-    let now = (g.D.Disk.told c.loop-file.disk).image in
+    let image = (g.D.Disk.shown c.args.disk.now).told.image in
+    let now = (g.D.Disk.shown c.loop-file.disk).told.image in
     let tidied = (c.loop-file.invariant.came.goes tells).tidied in
     let none = c.requires tells in
     let listing = c.deref.ensures.value ∙ c.in_ok-files.ensures.files tells in
@@ -35,8 +35,8 @@ loop-file-preserved g c = elim c.if-is_loose.branch [
         came = came_trans _ _ _ _ c.loop-file.invariant.came w.remove_file.ensures.course.came;
         cleared = λ tells.
             let none : Listed = record { name = record { id = 0; kind = Main }; len = 0 } in
-            cleared_more (at (g.D.Disk.told c.args.disk.now).image) (at (g.D.Disk.told c.loop-file.disk).image)
-            (at (g.D.Disk.told w.remove_file.new.disk).image) c.deref-file-items.result.now c.loop-file.file-index none
+            cleared_more (at (g.D.Disk.shown c.args.disk.now).told.image) (at (g.D.Disk.shown c.loop-file.disk).told.image)
+            (at (g.D.Disk.shown w.remove_file.new.disk).told.image) c.deref-file-items.result.now c.loop-file.file-index none
             c.loop-file-test.true
             (not_main (is_some (get nat_cmp c.in_ok-mains.mains (get_or c.deref-file-items.result.now c.loop-file.file-index none).name.id))
             (get_or c.deref-file-items.result.now c.loop-file.file-index none).name.kind
@@ -46,11 +46,11 @@ loop-file-preserved g c = elim c.if-is_loose.branch [
   | else-is_loose w ↦ rw w.disk-is (record {
     came = c.loop-file.invariant.came;
     cleared = λ tells.
-        let image = (g.D.Disk.told c.args.disk.now).image in
+        let image = (g.D.Disk.shown c.args.disk.now).told.image in
         let listing = c.deref.ensures.value ∙ c.in_ok-files.ensures.files tells in
         let items = c.deref-file-items.result.now in
         let none : Listed = record { name = record { id = 0; kind = Main }; len = 0 } in
-        cleared_kept image (g.D.Disk.told c.loop-file.disk).image c.deref.result.now items c.loop-file.file-index none
+        cleared_kept image (g.D.Disk.shown c.loop-file.disk).told.image c.deref.result.now items c.loop-file.file-index none
         (get nat_cmp c.in_ok-mains.mains (get_or items c.loop-file.file-index none).name.id) c.is_loose.result
         (g.met.D.Disk.well c.args.disk.now tells).once listing c.loop-file-test.true
         (c.in_ok-mains.ensures (get_or items c.loop-file.file-index none).name.id) c.is_loose.ensures w.if-is_loose.false
@@ -63,6 +63,6 @@ returns-in_err-remove_file-clause-course g c = course_after _ _ _ _ _ c.loop-fil
 
 pub returns-clause-cleared : goal.returns-clause-cleared
 returns-clause-cleared g c = λ tells.
-    cleared_all (g.D.Disk.told c.args.disk.now).image (g.D.Disk.told c.loop-file.disk).image c.deref-file-items.result.now
+    cleared_all (g.D.Disk.shown c.args.disk.now).told.image (g.D.Disk.shown c.loop-file.disk).told.image c.deref-file-items.result.now
     c.loop-file.file-index (c.deref-file-items.ensures.value ∙ c.in_ok-files.ensures.files tells) c.loop-file-test.false
     (c.loop-file.invariant.cleared tells)

@@ -15,7 +15,7 @@ pub sync_file-requires : goal.sync_file-requires
 sync_file-requires g c = λ tells.
     let there = map_some _ _ (c.requires.there tells) in
     rw c.named.ensures
-    (ours (g.D.Disk.told c.args.disk.now) (main c.args.file.0) (g.met.D.Disk.well c.args.disk.now tells) (c.requires.none_lent tells)
+    (ours (g.D.Disk.shown c.args.disk.now).told (main c.args.file.0) (g.met.D.Disk.well c.args.disk.now tells) (c.requires.none_lent tells)
     (ap is_some there.1))
 
 pub read_hint_if_there-requires : goal.read_hint_if_there-requires
@@ -35,7 +35,7 @@ scan_from-requires-clause-needed g c = λ tells short.
     let judged = subst (λ (i : Image). IsJudged (at i (hint c.args.file.0)) c.args.len c.in_ok-verdict.verdict)
     (c.sync_file.ensures.image tells) (c.in_ok-verdict.ensures.judged tells) in
     subst (λ (i : Image). NeedsScan (at i) c.args.file.0) (sym image)
-    (needs_scan (at (g.D.Disk.told c.args.disk.now).image) c.args.file.0 there.0 c.args.len c.in_ok-verdict.verdict
+    (needs_scan (at (g.D.Disk.shown c.args.disk.now).told.image) c.args.file.0 there.0 c.args.len c.in_ok-verdict.verdict
     c.requires.first (c.requires.no_list tells) there.1 there.2 judged (λ e. short (c.covered_by-from.ensures ∙ e)))
 
 pub returns-clause-found : goal.returns-clause-found
@@ -53,7 +53,7 @@ returns-clause-read g c = λ tells bytes writes is are tells_truth.
     let long : length bytes ≡ c.args.len = ap length (sym one) ∙ there.2 in
     let image = c.read_hint_if_there.ensures.image tells ∙ c.sync_file.ensures.image tells in
     let truth = subst (λ (i : Image). TrueIfThere (at i (hint c.args.file.0)) c.args.len writes) (sym (c.sync_file.ensures.image tells))
-    (subst (λ (n : ℕ). TrueIfThere (at (g.D.Disk.told c.args.disk.now).image (hint c.args.file.0)) n writes) long tells_truth) in
+    (subst (λ (n : ℕ). TrueIfThere (at (g.D.Disk.shown c.args.disk.now).told.image (hint c.args.file.0)) n writes) long tells_truth) in
     let taken = c.in_ok-verdict.ensures.taken tells writes truth are.fit in
     let taken_from = subst (λ (n : ℕ). HasTaken c.args.file writes n c.args.learned.now c.read_hint_if_there.new.learned)
     (sym c.covered_by-from.ensures) taken in

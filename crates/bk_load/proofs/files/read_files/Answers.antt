@@ -24,7 +24,7 @@ read_file-requires-clause-first g c =
 
 pub read_file-requires-clause-no_list : goal.read_file-requires-clause-no_list
 read_file-requires-clause-no_list g c = λ tells.
-    no_list_at (g.D.Disk.told c.args.disk.now).image (g.D.Disk.told c.files.disk).image (c.files.invariant.image tells)
+    no_list_at (g.D.Disk.shown c.args.disk.now).told.image (g.D.Disk.shown c.files.disk).told.image (c.files.invariant.image tells)
     (c.requires.no_list tells)
 
 pub read_file-requires-clause-none_lent : goal.read_file-requires-clause-none_lent
@@ -32,15 +32,15 @@ read_file-requires-clause-none_lent g c = λ tells. (c.files.invariant.came.goes
 
 pub read_file-requires-clause-there : goal.read_file-requires-clause-there
 read_file-requires-clause-there g c = λ tells.
-    let image = (g.D.Disk.told c.args.disk.now).image in
+    let image = (g.D.Disk.shown c.args.disk.now).told.image in
     let numbers = are_numbers image c.deref.result.now Main 1 c.in_ok-mains.mains.items c.deref-main-items.result.now
     (g.met.D.Disk.well c.args.disk.now tells).once (c.deref.ensures.value ∙ c.in_ok-files.ensures.files tells)
     c.in_ok-mains.ensures c.deref-main-items.ensures.value in
-    number_len image (g.D.Disk.told c.files.disk).image Main 1 _ _ _ numbers c.files-test.true (c.files.invariant.image tells)
+    number_len image (g.D.Disk.shown c.files.disk).told.image Main 1 _ _ _ numbers c.files-test.true (c.files.invariant.image tells)
 
 pub read_file-requires-clause-hint : goal.read_file-requires-clause-hint
 read_file-requires-clause-hint g c = λ tells.
-    len_at_now (g.D.Disk.told c.args.disk.now).image (g.D.Disk.told c.files.disk).image c.deref-2.result.now (hint _)
+    len_at_now (g.D.Disk.shown c.args.disk.now).told.image (g.D.Disk.shown c.files.disk).told.image c.deref-2.result.now (hint _)
     c.copied-hint_size.result (g.met.D.Disk.well c.args.disk.now tells).once
     (c.deref-2.ensures.value ∙ c.in_ok-files.ensures.files tells) (c.files.invariant.image tells)
     (c.copied-hint_size.ensures ∙ c.get.ensures.value ∙ c.in_ok-hints.ensures _)
@@ -61,22 +61,22 @@ files-preserved g c = record {
   uncounted = subst (AllByRecursion IsUncounted) (sym c.in_ok-push.ensures.items)
       (AllByRecursion-push IsUncounted c.files.found.items c.in_ok-this.this c.files.invariant.uncounted c.in_ok-this.ensures.uncounted);
   found = λ tells.
-      let image = (g.D.Disk.told c.args.disk.now).image in
+      let image = (g.D.Disk.shown c.args.disk.now).told.image in
       let this = subst (λ (i : Image). IsFound (at i) c.in_ok-this.this) (c.files.invariant.image tells)
       (c.in_ok-this.ensures.found tells) in
       subst (AllByRecursion (IsFound (at image))) (sym c.in_ok-push.ensures.items)
       (AllByRecursion-push (IsFound (at image)) c.files.found.items c.in_ok-this.this (c.files.invariant.found tells) this);
   synced = λ tells.
-      subst (AllByRecursion (λ (f : FileFound). IsSyncedFile (g.D.Disk.told c.read_file.new.disk) (main f.row.id.0)))
+      subst (AllByRecursion (λ (f : FileFound). IsSyncedFile (g.D.Disk.shown c.read_file.new.disk).told (main f.row.id.0)))
       (sym c.in_ok-push.ensures.items)
-      (synced_more (g.D.Disk.told c.files.disk) (g.D.Disk.told c.read_file.new.disk) c.files.found.items c.in_ok-this.this _
+      (synced_more (g.D.Disk.shown c.files.disk).told (g.D.Disk.shown c.read_file.new.disk).told c.files.found.items c.in_ok-this.this _
       c.in_ok-this.ensures.file (c.in_ok-this.ensures.synced tells) (c.files.invariant.synced tells));
   read = λ tells books reads tell.
-      let image = (g.D.Disk.told c.args.disk.now).image in
+      let image = (g.D.Disk.shown c.args.disk.now).told.image in
       let numbers = are_numbers image c.deref.result.now Main 1 c.in_ok-mains.mains.items c.deref-main-items.result.now
       (g.met.D.Disk.well c.args.disk.now tells).once (c.deref.ensures.value ∙ c.in_ok-files.ensures.files tells)
       c.in_ok-mains.ensures c.deref-main-items.ensures.value in
-      let scanned = scanned_in image (g.D.Disk.told c.files.disk).image books _ c.in_ok-this.this.row.total c.files.learned
+      let scanned = scanned_in image (g.D.Disk.shown c.files.disk).told.image books _ c.in_ok-this.this.row.total c.files.learned
       c.read_file.new.learned (from_low 1 _ c.files.main-index _ numbers.rise c.files-test.true)
       (c.requires.no_list tells) (c.files.invariant.image tells) _
       (numbers.there c.files.main-index _ c.files-test.true) reads tell
@@ -101,7 +101,7 @@ returns-clause-rise g c =
 
 pub returns-clause-found : goal.returns-clause-found
 returns-clause-found g c = λ tells.
-    let image = (g.D.Disk.told c.args.disk.now).image in
+    let image = (g.D.Disk.shown c.args.disk.now).told.image in
     let numbers = are_numbers image c.deref.result.now Main 1 c.in_ok-mains.mains.items c.deref-main-items.result.now
     (g.met.D.Disk.well c.args.disk.now tells).once (c.deref.ensures.value ∙ c.in_ok-files.ensures.files tells)
     c.in_ok-mains.ensures c.deref-main-items.ensures.value in
@@ -109,4 +109,4 @@ returns-clause-found g c = λ tells.
     c.files.invariant.ids (c.files.invariant.found tells)
 
 pub returns-clause-synced : goal.returns-clause-synced
-returns-clause-synced g c = λ tells. synced_rows (g.D.Disk.told c.files.disk) c.files.found.items (c.files.invariant.synced tells)
+returns-clause-synced g c = λ tells. synced_rows (g.D.Disk.shown c.files.disk).told c.files.found.items (c.files.invariant.synced tells)

@@ -17,28 +17,18 @@ use Rattle.bk_load.proofs.files.read_files.Given as goal
 abbrev pub invariant-files : goal.invariant-files
 invariant-files g l = record {
   came : Came g.D.Disk.tells
-      (record {
-        told = g.D.Disk.told l.fn.disk;
-        faults = g.D.Disk.faults l.fn.disk;
-        views = g.D.Disk.fallible_views l.fn.disk;
-        outs = g.D.Disk.fallible_outs l.fn.disk;
-      })
-      (record {
-        told = g.D.Disk.told l.disk;
-        faults = g.D.Disk.faults l.disk;
-        views = g.D.Disk.fallible_views l.disk;
-        outs = g.D.Disk.fallible_outs l.disk;
-      });
-  image : IsTrue g.D.Disk.tells → (g.D.Disk.told l.disk).image ≡ (g.D.Disk.told l.fn.disk).image;
+      (g.D.Disk.shown l.fn.disk)
+      (g.D.Disk.shown l.disk);
+  image : IsTrue g.D.Disk.tells → (g.D.Disk.shown l.disk).told.image ≡ (g.D.Disk.shown l.fn.disk).told.image;
   fit : AreFit l.fn.learned → AreFit l.learned;
   kept : KeepsFound l.found.items l.fn.learned.keys.entries l.learned.keys.entries;
   ids : found_ids l.found.items ≡ ids_of (take l.main-index l.main-items);
   uncounted : AllByRecursion IsUncounted l.found.items;
-  found : IsTrue g.D.Disk.tells → AllByRecursion (IsFound (at (g.D.Disk.told l.fn.disk).image)) l.found.items;
+  found : IsTrue g.D.Disk.tells → AllByRecursion (IsFound (at (g.D.Disk.shown l.fn.disk).told.image)) l.found.items;
   synced : IsTrue g.D.Disk.tells
-      → AllByRecursion (λ (f : FileFound). IsSyncedFile (g.D.Disk.told l.disk) (main f.row.id.0)) l.found.items;
+      → AllByRecursion (λ (f : FileFound). IsSyncedFile (g.D.Disk.shown l.disk).told (main f.row.id.0)) l.found.items;
   read : IsTrue g.D.Disk.tells → (books : Books)
-      → ((n : Name) → Counts (at (g.D.Disk.told l.fn.disk).image) n
-      → AreRecords (bytes_in (at (g.D.Disk.told l.fn.disk).image) n) (books n))
-      → HintsTrue (at (g.D.Disk.told l.fn.disk).image) books → HaveRead books l.found.items l.fn.learned l.learned;
+      → ((n : Name) → Counts (at (g.D.Disk.shown l.fn.disk).told.image) n
+      → AreRecords (bytes_in (at (g.D.Disk.shown l.fn.disk).told.image) n) (books n))
+      → HintsTrue (at (g.D.Disk.shown l.fn.disk).told.image) books → HaveRead books l.found.items l.fn.learned l.learned;
 }

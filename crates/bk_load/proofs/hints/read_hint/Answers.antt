@@ -14,13 +14,13 @@ pub read_whole-requires : goal.read_whole-requires
 read_whole-requires g c = λ tells.
     let there = c.requires tells in
     rw c.named.ensures (record {
-      within = whole_within (g.D.Disk.told c.args.disk.now).image (hint c.args.file.0) there.0 c.args.size there.1 there.2;
-      needed = none_needed (at (g.D.Disk.told c.args.disk.now).image) (hint c.args.file.0) (λ e. cc e);
+      within = whole_within (g.D.Disk.shown c.args.disk.now).told.image (hint c.args.file.0) there.0 c.args.size there.1 there.2;
+      needed = none_needed (at (g.D.Disk.shown c.args.disk.now).told.image) (hint c.args.file.0) (λ e. cc e);
     })
 
 pub returns-clause-judged : goal.returns-clause-judged
 returns-clause-judged g c = λ tells bytes is.
-    let image = (g.D.Disk.told c.args.disk.now).image in
+    let image = (g.D.Disk.shown c.args.disk.now).told.image in
     let there = c.requires tells in
     let both : Some there.0 ≡ Some bytes = sym there.1 ∙ is in
     let one : there.0 ≡ bytes = cc both in
@@ -42,7 +42,7 @@ returns-clause-kept g c = elim c.if-is_usable.branch [
 
 pub returns-clause-taken : goal.returns-clause-taken
 returns-clause-taken g c = λ tells bytes writes is tells_truth fit.
-    let image = (g.D.Disk.told c.args.disk.now).image in
+    let image = (g.D.Disk.shown c.args.disk.now).told.image in
     let there = c.requires tells in
     let both : Some there.0 ≡ Some bytes = sym there.1 ∙ is in
     let one : there.0 ≡ bytes = cc both in

@@ -14,10 +14,10 @@ loop-swap-init g c = record {
 
 pub read_whole-requires : goal.read_whole-requires
 read_whole-requires g c = λ tells.
-    let image = (g.D.Disk.told c.args.disk.now).image in
+    let image = (g.D.Disk.shown c.args.disk.now).told.image in
     let numbers = are_numbers image c.args.files.now Swap 0 c.in_ok-swaps.swaps.items c.deref-swap-items.result.now
     (g.met.D.Disk.well c.args.disk.now tells).once (c.requires tells) c.in_ok-swaps.ensures c.deref-swap-items.ensures.value in
-    number_view_now image (g.D.Disk.told c.loop-swap.disk).image Swap 0 _ _ _ c.named-name.result numbers (λ e. cc e)
+    number_view_now image (g.D.Disk.shown c.loop-swap.disk).told.image Swap 0 _ _ _ c.named-name.result numbers (λ e. cc e)
     c.loop-swap-test.true c.named-name.ensures (c.loop-swap.invariant.image tells)
 
 pub loop-swap-preserved : goal.loop-swap-preserved
@@ -25,24 +25,24 @@ loop-swap-preserved g c = record {
   came = came_trans _ _ _ _ c.loop-swap.invariant.came c.read_whole.ensures.course.came;
   image = λ tells. c.read_whole.ensures.image tells ∙ c.loop-swap.invariant.image tells;
   read = λ tells.
-      let image = (g.D.Disk.told c.args.disk.now).image in
+      let image = (g.D.Disk.shown c.args.disk.now).told.image in
       let numbers = are_numbers image c.args.files.now Swap 0 c.in_ok-swaps.swaps.items c.deref-swap-items.result.now
       (g.met.D.Disk.well c.args.disk.now tells).once (c.requires tells) c.in_ok-swaps.ensures c.deref-swap-items.ensures.value in
-      swap_more image (g.D.Disk.told c.loop-swap.disk).image _ _ _ c.named-name.result c.in_ok-bytes.bytes.items
+      swap_more image (g.D.Disk.shown c.loop-swap.disk).told.image _ _ _ c.named-name.result c.in_ok-bytes.bytes.items
       c.deref.result.now _ _ numbers (c.loop-swap.invariant.image tells) c.loop-swap-test.true c.named-name.ensures
       c.deref.ensures.value (c.in_ok-bytes.ensures.bytes tells) c.in_ok-take.ensures (c.loop-swap.invariant.read tells);
 }
 
 pub returns-clause-whole : goal.returns-clause-whole
 returns-clause-whole g c = λ tells.
-    let image = (g.D.Disk.told c.args.disk.now).image in
+    let image = (g.D.Disk.shown c.args.disk.now).told.image in
     let numbers = are_numbers image c.args.files.now Swap 0 c.in_ok-swaps.swaps.items c.deref-swap-items.result.now
     (g.met.D.Disk.well c.args.disk.now tells).once (c.requires tells) c.in_ok-swaps.ensures c.deref-swap-items.ensures.value in
     lists_done image _ _ _ numbers c.loop-swap-test.false (c.loop-swap.invariant.read tells)
 
 pub returns-clause-odd : goal.returns-clause-odd
 returns-clause-odd g c = λ tells.
-    let image = (g.D.Disk.told c.args.disk.now).image in
+    let image = (g.D.Disk.shown c.args.disk.now).told.image in
     let numbers = are_numbers image c.args.files.now Swap 0 c.in_ok-swaps.swaps.items c.deref-swap-items.result.now
     (g.met.D.Disk.well c.args.disk.now tells).once (c.requires tells) c.in_ok-swaps.ensures c.deref-swap-items.ensures.value in
     odd_done image _ _ _ numbers c.loop-swap-test.false (c.loop-swap.invariant.read tells)

@@ -7,18 +7,8 @@ use Rattle.bk_load.proofs.lists.read_lists.Given as goal
 abbrev pub invariant-loop-swap : goal.invariant-loop-swap
 invariant-loop-swap g l = record {
   came : Came g.D.Disk.tells
-      (record {
-        told = g.D.Disk.told l.fn.disk;
-        faults = g.D.Disk.faults l.fn.disk;
-        views = g.D.Disk.fallible_views l.fn.disk;
-        outs = g.D.Disk.fallible_outs l.fn.disk;
-      })
-      (record {
-        told = g.D.Disk.told l.disk;
-        faults = g.D.Disk.faults l.disk;
-        views = g.D.Disk.fallible_views l.disk;
-        outs = g.D.Disk.fallible_outs l.disk;
-      });
-  image : IsTrue g.D.Disk.tells → (g.D.Disk.told l.disk).image ≡ (g.D.Disk.told l.fn.disk).image;
-  read : IsTrue g.D.Disk.tells → ReadSome (at (g.D.Disk.told l.fn.disk).image) (take l.swap-index l.swap-items) l.lists;
+      (g.D.Disk.shown l.fn.disk)
+      (g.D.Disk.shown l.disk);
+  image : IsTrue g.D.Disk.tells → (g.D.Disk.shown l.disk).told.image ≡ (g.D.Disk.shown l.fn.disk).told.image;
+  read : IsTrue g.D.Disk.tells → ReadSome (at (g.D.Disk.shown l.fn.disk).told.image) (take l.swap-index l.swap-items) l.lists;
 }

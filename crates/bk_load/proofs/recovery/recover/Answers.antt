@@ -24,7 +24,7 @@ clear_unless_odd-requires g c = λ tells. c.in_ok-settle_lists.ensures.none tell
 
 pub read_files-requires-clause-no_list : goal.read_files-requires-clause-no_list
 read_files-requires-clause-no_list g c = λ tells.
-    no_list_still (at (g.D.Disk.told c.settle_lists.new.disk).image) (at (g.D.Disk.told c.clear_unless_odd.new.disk).image)
+    no_list_still (at (g.D.Disk.shown c.settle_lists.new.disk).told.image) (at (g.D.Disk.shown c.clear_unless_odd.new.disk).told.image)
     (c.clear_unless_odd.ensures.course.came.goes tells).tidied (c.in_ok-settle_lists.ensures.none tells)
 
 pub read_files-requires-clause-none_lent : goal.read_files-requires-clause-none_lent
@@ -75,7 +75,7 @@ returns-clause-files g c = λ tells.
     c.read_files.ensures.course.came in
     let goes = came.goes tells in
     if_ok_map c.assemble.result _ _
-    (λ l a. are_files_of (g.D.Disk.told c.args.disk.now) (g.D.Disk.told c.read_files.new.disk) _ _ _ _ l goes.tidied
+    (λ l a. are_files_of (g.D.Disk.shown c.args.disk.now).told (g.D.Disk.shown c.read_files.new.disk).told _ _ _ _ l goes.tidied
     (g.met.D.Disk.well c.read_files.new.disk tells) (goes.lent (c.requires tells))
     (subst (λ (i : Image). AreFound (at i) c.in_ok-files.files.items) (sym (c.read_files.ensures.image tells))
     (c.in_ok-files.ensures.found tells)) c.in_ok-files.ensures.rise c.in_ok-files.ensures.uncounted a
@@ -85,7 +85,7 @@ returns-clause-files g c = λ tells.
 pub returns-clause-idle : goal.returns-clause-idle
 returns-clause-idle g c = λ tells.
     on_ok_from c.assemble.result _ _
-    (no_list_still (at (g.D.Disk.told c.settle_lists.new.disk).image) (at (g.D.Disk.told c.read_files.new.disk).image)
+    (no_list_still (at (g.D.Disk.shown c.settle_lists.new.disk).told.image) (at (g.D.Disk.shown c.read_files.new.disk).told.image)
     ((came_trans _ _ _ _ c.clear_unless_odd.ensures.course.came c.read_files.ensures.course.came).goes tells).tidied
     (c.in_ok-settle_lists.ensures.none tells))
     c.assemble.ensures.loaded
@@ -95,7 +95,7 @@ returns-clause-loaded g c = λ tells.
     let image = sym (c.read_files.ensures.image tells) in
     if_ok_map c.assemble.result _ _
     (λ l a. subst (λ (i : Image). IsLoadedFrom (at i) l) image
-    (is_loaded_from (at (g.D.Disk.told c.clear_unless_odd.new.disk).image) _ _ _ _ _ l c.new-learned.ensures.entries
+    (is_loaded_from (at (g.D.Disk.shown c.clear_unless_odd.new.disk).told.image) _ _ _ _ _ l c.new-learned.ensures.entries
     c.new-learned.ensures.last
     (c.in_ok-files.ensures.fit (fit_new _ c.new-learned.ensures.entries c.new-learned.ensures.last))
     (c.in_ok-files.ensures.found tells) c.in_ok-files.ensures.rise c.in_ok-files.ensures.uncounted a
@@ -105,7 +105,7 @@ returns-clause-loaded g c = λ tells.
 pub returns-clause-odd : goal.returns-clause-odd
 returns-clause-odd g c = λ tells.
     if_ok_map c.assemble.result _ _
-    (λ l a. subst (AreOdd (at (g.D.Disk.told c.args.disk.now).image)) (sym a.odd_names)
+    (λ l a. subst (AreOdd (at (g.D.Disk.shown c.args.disk.now).told.image)) (sym a.odd_names)
     (subst (λ (t : Told). AreOdd (at t.image) c.in_ok-lists.lists.odd.items) (c.list_files.ensures.told tells)
     (c.in_ok-lists.ensures.odd tells)))
     c.assemble.ensures.loaded
@@ -117,15 +117,15 @@ returns-clause-sound g c = λ tells log sound.
     c.read_files.ensures.course.came in
     let goes = came.goes tells in
     let none =
-    no_list_still (at (g.D.Disk.told c.settle_lists.new.disk).image) (at (g.D.Disk.told c.read_files.new.disk).image)
+    no_list_still (at (g.D.Disk.shown c.settle_lists.new.disk).told.image) (at (g.D.Disk.shown c.read_files.new.disk).told.image)
     ((came_trans _ _ _ _ c.clear_unless_odd.ensures.course.came c.read_files.ensures.course.came).goes tells).tidied
     (c.in_ok-settle_lists.ensures.none tells) in
     let image = sym (c.read_files.ensures.image tells) in
     if_ok_map c.assemble.result _ _
-    (λ l a. sound_load (g.D.Disk.told c.args.disk.now) (g.D.Disk.told c.read_files.new.disk) l log goes.tidied sound
+    (λ l a. sound_load (g.D.Disk.shown c.args.disk.now).told (g.D.Disk.shown c.read_files.new.disk).told l log goes.tidied sound
     (g.met.D.Disk.well c.read_files.new.disk tells) (goes.synced sound.synced) none
     (subst (λ (i : Image). IsLoadedFrom (at i) l) image
-    (is_loaded_from (at (g.D.Disk.told c.clear_unless_odd.new.disk).image) _ _ _ _ _ l c.new-learned.ensures.entries
+    (is_loaded_from (at (g.D.Disk.shown c.clear_unless_odd.new.disk).told.image) _ _ _ _ _ l c.new-learned.ensures.entries
     c.new-learned.ensures.last
     (c.in_ok-files.ensures.fit (fit_new _ c.new-learned.ensures.entries c.new-learned.ensures.last))
     (c.in_ok-files.ensures.found tells) c.in_ok-files.ensures.rise c.in_ok-files.ensures.uncounted a
@@ -142,6 +142,6 @@ returns-clause-cleared g c = λ tells.
 pub returns-clause-synced : goal.returns-clause-synced
 returns-clause-synced g c = λ tells.
     if_ok_map c.assemble.result _ _
-    (λ l a. subst (λ (rows : List Row). AreSyncedIfSealed rows (g.D.Disk.told c.read_files.new.disk)) (sym a.rows)
-    (synced_counted (g.D.Disk.told c.read_files.new.disk) l.keydir.entries _ (c.in_ok-files.ensures.synced tells)))
+    (λ l a. subst (λ (rows : List Row). AreSyncedIfSealed rows (g.D.Disk.shown c.read_files.new.disk).told) (sym a.rows)
+    (synced_counted (g.D.Disk.shown c.read_files.new.disk).told l.keydir.entries _ (c.in_ok-files.ensures.synced tells)))
     (rw c.deref-5.ensures.value at c.assemble.ensures.loaded)

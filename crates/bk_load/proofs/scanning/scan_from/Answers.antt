@@ -14,9 +14,9 @@ pub view_file-requires : goal.view_file-requires
 view_file-requires g c = λ tells.
     let there = c.requires.there tells in
     rw c.named.ensures (record {
-      within = rest_within (g.D.Disk.told c.args.disk.now).image (main c.args.file.0) there.0 c.args.from c.args.len there.1 there.2
+      within = rest_within (g.D.Disk.shown c.args.disk.now).told.image (main c.args.file.0) there.0 c.args.from c.args.len there.1 there.2
           c.requires.inside;
-      needed = data_needed (at (g.D.Disk.told c.args.disk.now).image) c.args.file.0 (c.requires.needed tells c.if-from-len.false);
+      needed = data_needed (at (g.D.Disk.shown c.args.disk.now).told.image) c.args.file.0 (c.requires.needed tells c.if-from-len.false);
     })
 
 pub returns-then-from-len-clause-course : goal.returns-then-from-len-clause-course
@@ -32,7 +32,7 @@ returns-then-from-len-clause-scanned g c = λ tells bytes writes there are.
 
 pub returns-clause-scanned : goal.returns-clause-scanned
 returns-clause-scanned g c = λ tells bytes writes there are.
-    let image = (g.D.Disk.told c.args.disk.now).image in
+    let image = (g.D.Disk.shown c.args.disk.now).told.image in
     let known = c.requires.there tells in
     let both : Some known.0 ≡ Some bytes = sym known.1 ∙ there in
     let is : known.0 ≡ bytes = cc both in

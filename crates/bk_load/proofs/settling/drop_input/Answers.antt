@@ -11,25 +11,25 @@ use Rattle.bk_load.proofs.settling.drop_input.Goals as goal
 pub remove_file-requires : goal.remove_file-requires
 remove_file-requires g c = λ tells.
     rw c.named.ensures
-    (input_may_go (at (g.D.Disk.told c.args.disk.now).image) (hint c.args.input.0) (c.requires tells) (λ e. cc e))
+    (input_may_go (at (g.D.Disk.shown c.args.disk.now).told.image) (hint c.args.input.0) (c.requires tells) (λ e. cc e))
 
 pub remove_file-requires-2 : goal.remove_file-requires-2
 remove_file-requires-2 g c = λ tells.
     rw c.named-2.ensures
-    (input_may_go (at (g.D.Disk.told c.remove_file.new.disk).image) (main_temp c.args.input.0)
-    (still_input c.named.result (hint c.args.input.0) c.args.input.0 (at (g.D.Disk.told c.args.disk.now).image)
-    (at (g.D.Disk.told c.remove_file.new.disk).image) c.named.ensures (λ e. cc e)
+    (input_may_go (at (g.D.Disk.shown c.remove_file.new.disk).told.image) (main_temp c.args.input.0)
+    (still_input c.named.result (hint c.args.input.0) c.args.input.0 (at (g.D.Disk.shown c.args.disk.now).told.image)
+    (at (g.D.Disk.shown c.remove_file.new.disk).told.image) c.named.ensures (λ e. cc e)
     (c.in_ok-remove_file.ensures.gone tells) (c.requires tells)) (λ e. cc e))
 
 pub remove_file-requires-3 : goal.remove_file-requires-3
 remove_file-requires-3 g c = λ tells.
     rw c.named-3.ensures
-    (input_may_go (at (g.D.Disk.told c.remove_file-2.new.disk).image) (main c.args.input.0)
-    (still_input c.named-2.result (main_temp c.args.input.0) c.args.input.0 (at (g.D.Disk.told c.remove_file.new.disk).image)
-    (at (g.D.Disk.told c.remove_file-2.new.disk).image) c.named-2.ensures (λ e. cc e)
+    (input_may_go (at (g.D.Disk.shown c.remove_file-2.new.disk).told.image) (main c.args.input.0)
+    (still_input c.named-2.result (main_temp c.args.input.0) c.args.input.0 (at (g.D.Disk.shown c.remove_file.new.disk).told.image)
+    (at (g.D.Disk.shown c.remove_file-2.new.disk).told.image) c.named-2.ensures (λ e. cc e)
     (c.in_ok-remove_file-2.ensures.gone tells)
-    (still_input c.named.result (hint c.args.input.0) c.args.input.0 (at (g.D.Disk.told c.args.disk.now).image)
-    (at (g.D.Disk.told c.remove_file.new.disk).image) c.named.ensures (λ e. cc e)
+    (still_input c.named.result (hint c.args.input.0) c.args.input.0 (at (g.D.Disk.shown c.args.disk.now).told.image)
+    (at (g.D.Disk.shown c.remove_file.new.disk).told.image) c.named.ensures (λ e. cc e)
     (c.in_ok-remove_file.ensures.gone tells) (c.requires tells))) (λ e. cc e))
 
 pub returns-in_err-remove_file-2-clause-course : goal.returns-in_err-remove_file-2-clause-course
@@ -43,10 +43,10 @@ returns-clause-course g c =
 
 pub returns-clause-lost : goal.returns-clause-lost
 returns-clause-lost g c = λ tells.
-    let o = at (g.D.Disk.told c.args.disk.now).image in
-    let p = at (g.D.Disk.told c.remove_file.new.disk).image in
-    let q = at (g.D.Disk.told c.remove_file-2.new.disk).image in
-    let r = at (g.D.Disk.told c.remove_file-3.new.disk).image in
+    let o = at (g.D.Disk.shown c.args.disk.now).told.image in
+    let p = at (g.D.Disk.shown c.remove_file.new.disk).told.image in
+    let q = at (g.D.Disk.shown c.remove_file-2.new.disk).told.image in
+    let r = at (g.D.Disk.shown c.remove_file-3.new.disk).told.image in
     on_ok_map c.remove_file-3.result _ _
     (λ lacks. loses_input c.args.input.0 o p q r
     (subst (λ (n : Name). LacksOnly n o p) c.named.ensures (c.in_ok-remove_file.ensures.gone tells))

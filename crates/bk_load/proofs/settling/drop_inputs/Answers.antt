@@ -15,8 +15,8 @@ loop-input-init g c = record { came = came_refl _ _; lost = λ tells. loses_none
 
 pub drop_input-requires : goal.drop_input-requires
 drop_input-requires g c = λ tells.
-    let r = at (g.D.Disk.told c.args.disk.now).image in
-    let s = at (g.D.Disk.told c.loop-input.disk).image in
+    let r = at (g.D.Disk.shown c.args.disk.now).told.image in
+    let s = at (g.D.Disk.shown c.loop-input.disk).told.image in
     let ids = numbers (take c.loop-input.input-index c.args.inputs.now) in
     let lost = c.loop-input.invariant.lost tells in
     let d : FileId = record { 0 = 0 } in
@@ -25,9 +25,9 @@ drop_input-requires g c = λ tells.
 
 pub loop-input-preserved : goal.loop-input-preserved
 loop-input-preserved g c =
-    let o = at (g.D.Disk.told c.args.disk.now).image in
-    let r = at (g.D.Disk.told c.loop-input.disk).image in
-    let s = at (g.D.Disk.told c.drop_input.new.disk).image in
+    let o = at (g.D.Disk.shown c.args.disk.now).told.image in
+    let r = at (g.D.Disk.shown c.loop-input.disk).told.image in
+    let s = at (g.D.Disk.shown c.drop_input.new.disk).told.image in
     let d : FileId = record { 0 = 0 } in
     record {
       came = came_trans _ _ _ _ c.loop-input.invariant.came c.drop_input.ensures.course.came;
@@ -43,7 +43,7 @@ returns-clause-course g c = course_ok _ _ _ _ c.loop-input.invariant.came
 
 pub returns-clause-lost : goal.returns-clause-lost
 returns-clause-lost g c = λ tells.
-    subst (λ (xs : List FileId). LosesInputs (numbers xs) (at (g.D.Disk.told c.args.disk.now).image) (at (g.D.Disk.told c.loop-input.disk).image))
+    subst (λ (xs : List FileId). LosesInputs (numbers xs) (at (g.D.Disk.shown c.args.disk.now).told.image) (at (g.D.Disk.shown c.loop-input.disk).told.image))
     (take_all c.loop-input.input-index c.args.inputs.now c.loop-input-test.false) (c.loop-input.invariant.lost tells)
 
 pub returns-in_err-drop_input-clause-course : goal.returns-in_err-drop_input-clause-course

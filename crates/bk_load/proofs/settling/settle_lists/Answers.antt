@@ -15,7 +15,7 @@ lists-init g c = record { came = came_refl _ _; lists = c.requires }
 
 pub rename_outputs-requires-clause-outputs : goal.rename_outputs-requires-clause-outputs
 rename_outputs-requires-clause-outputs g c = λ tells id is_in.
-    let r = at (g.D.Disk.told c.lists.disk).image in
+    let r = at (g.D.Disk.shown c.lists.disk).told.image in
     let are : AreLists r (c.in-Some.first.now ∷ c.in-Some.later.now) =
     subst (AreLists r) c.in-Some.ensures.cases.0 (c.lists.invariant.lists tells) in
     names_output r c.in-Some.first.now id (are.each c.in-Some.first.now (inl refl))
@@ -23,8 +23,8 @@ rename_outputs-requires-clause-outputs g c = λ tells id is_in.
 
 pub drop_inputs-requires : goal.drop_inputs-requires
 drop_inputs-requires g c = λ tells id is_in.
-    let r = at (g.D.Disk.told c.lists.disk).image in
-    let s = at (g.D.Disk.told c.rename_outputs.new.disk).image in
+    let r = at (g.D.Disk.shown c.lists.disk).told.image in
+    let s = at (g.D.Disk.shown c.rename_outputs.new.disk).told.image in
     let first = c.in-Some.first.now in
     let are : AreLists r (first ∷ c.in-Some.later.now) =
     subst (AreLists r) c.in-Some.ensures.cases.0 (c.lists.invariant.lists tells) in
@@ -34,9 +34,9 @@ drop_inputs-requires g c = λ tells id is_in.
 
 pub remove_file-requires : goal.remove_file-requires
 remove_file-requires g c = λ tells.
-    let r = at (g.D.Disk.told c.lists.disk).image in
-    let s = at (g.D.Disk.told c.rename_outputs.new.disk).image in
-    let t = at (g.D.Disk.told c.drop_inputs.new.disk).image in
+    let r = at (g.D.Disk.shown c.lists.disk).told.image in
+    let s = at (g.D.Disk.shown c.rename_outputs.new.disk).told.image in
+    let t = at (g.D.Disk.shown c.drop_inputs.new.disk).told.image in
     let first = c.in-Some.first.now in
     let are : AreLists r (first ∷ c.in-Some.later.now) =
     subst (AreLists r) c.in-Some.ensures.cases.0 (c.lists.invariant.lists tells) in
@@ -52,10 +52,10 @@ remove_file-requires g c = λ tells.
 
 pub lists-preserved : goal.lists-preserved
 lists-preserved g c =
-    let r = at (g.D.Disk.told c.lists.disk).image in
-    let s = at (g.D.Disk.told c.rename_outputs.new.disk).image in
-    let t = at (g.D.Disk.told c.drop_inputs.new.disk).image in
-    let u = at (g.D.Disk.told c.remove_file.new.disk).image in
+    let r = at (g.D.Disk.shown c.lists.disk).told.image in
+    let s = at (g.D.Disk.shown c.rename_outputs.new.disk).told.image in
+    let t = at (g.D.Disk.shown c.drop_inputs.new.disk).told.image in
+    let u = at (g.D.Disk.shown c.remove_file.new.disk).told.image in
     let first = c.in-Some.first.now in
     record {
       came = came_trans _ _ _ _
@@ -75,7 +75,7 @@ lists-preserved g c =
 
 pub returns-clause-none : goal.returns-clause-none
 returns-clause-none g c = λ tells.
-    let s = at (g.D.Disk.told c.lists.disk).image in
+    let s = at (g.D.Disk.shown c.lists.disk).told.image in
     no_more_lists s (subst (AreLists s) (no_items c.lists.waiting.now c.in_default.ensures.cases) (c.lists.invariant.lists tells))
 
 pub returns-in_err-rename_outputs-clause-course : goal.returns-in_err-rename_outputs-clause-course

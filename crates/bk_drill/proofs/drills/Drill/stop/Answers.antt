@@ -1,5 +1,6 @@
 use Rattle.std.proofs.Common.{◌∙◌, ℕ, List, ap}
 use Rattle.std.proofs.lemmas.Result.{IfOk-weaker}
+use Rattle.bk_disk.specs.Shown.{DiskShown}
 use Rattle.bk_disk.specs.Told.{Told}
 use Rattle.bk_load.proofs.ReadFiles.{synced_none_lent}
 use Rattle.bk_memdisk.specs.Crash.{crashed}
@@ -21,7 +22,7 @@ returns-clause-own c =
     (λ d over. (
       lines,
       c.in_ok-write_reopened.ensures.ok,
-      is_stopped c.args.self d c.args.keep c.args.flips t (told_by c.in_ok-disk.disk) r c.close.ensures.told
+      is_stopped c.args.self d c.args.keep c.args.flips t (told_by c.in_ok-disk.disk) r (ap (λ (x : DiskShown). x.told) c.close.ensures.shown)
           (c.in_ok-disk.ensures.image
           ∙ ap (λ (flips : List ℕ). crashed c.args.keep flips t.fronts t.image) c.into_offsets.ensures)
           c.in_ok-disk.ensures.allowed c.in_ok-disk.ensures.synced c.in_ok-recovered.ensures over,
@@ -38,7 +39,7 @@ returns-clause-ok c =
       lines,
       c.in_ok-write_reopened.ensures.ok,
       runs_stopped c.args.self d c.args.keep c.args.flips lines
-          (is_stopped c.args.self d c.args.keep c.args.flips t (told_by c.in_ok-disk.disk) r c.close.ensures.told
+          (is_stopped c.args.self d c.args.keep c.args.flips t (told_by c.in_ok-disk.disk) r (ap (λ (x : DiskShown). x.told) c.close.ensures.shown)
           (c.in_ok-disk.ensures.image
           ∙ ap (λ (flips : List ℕ). crashed c.args.keep flips t.fronts t.image) c.into_offsets.ensures)
           c.in_ok-disk.ensures.allowed c.in_ok-disk.ensures.synced c.in_ok-recovered.ensures over),

@@ -8,14 +8,14 @@ pub returns-clause-consistent : goal.returns-clause-consistent
 returns-clause-consistent g c =
     λ tells. (after_view (known_of c.self.inside.catalog) (is_ok c.view.result) c.name_of.result
     c.args.at c.args.len
-    (g.D.Disk.told c.self.inside.disk) (g.D.Disk.told c.view.new.self) (c.view.ensures.told tells)
+    (g.D.Disk.shown c.self.inside.disk).told (g.D.Disk.shown c.view.new.self).told (c.view.ensures.told tells)
     (subst IsConsistent (sym c.self.view_is) (c.requires tells))).consistent
 
 pub returns-clause-scratch : goal.returns-clause-scratch
 returns-clause-scratch g c =
     λ tells was.
     (after_view (known_of c.self.inside.catalog) (is_ok c.view.result) c.name_of.result c.args.at c.args.len
-    (g.D.Disk.told c.self.inside.disk) (g.D.Disk.told c.view.new.self) (c.view.ensures.told tells)
+    (g.D.Disk.shown c.self.inside.disk).told (g.D.Disk.shown c.view.new.self).told (c.view.ensures.told tells)
     (subst IsConsistent (sym c.self.view_is) (c.requires tells))).scratch
     (subst IsFromScratch (sym c.self.view_is) was)
 
@@ -23,6 +23,6 @@ pub returns-clause-synced : goal.returns-clause-synced
 returns-clause-synced g c =
     λ tells was.
     (after_view (known_of c.self.inside.catalog) (is_ok c.view.result) c.name_of.result c.args.at c.args.len
-    (g.D.Disk.told c.self.inside.disk) (g.D.Disk.told c.view.new.self) (c.view.ensures.told tells)
+    (g.D.Disk.shown c.self.inside.disk).told (g.D.Disk.shown c.view.new.self).told (c.view.ensures.told tells)
     (subst IsConsistent (sym c.self.view_is) (c.requires tells))).synced
     (subst IsSyncedIfSealed (sym c.self.view_is) was)

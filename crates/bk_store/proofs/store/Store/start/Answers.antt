@@ -1,5 +1,6 @@
-use Rattle.std.proofs.Common.{refl}
+use Rattle.std.proofs.Common.{ap, refl}
 use Rattle.std.specs.Vec.{vec_capacity}
+use Rattle.bk_disk.specs.Shown.{DiskShown}
 use Rattle.bk_store.specs.Shown.{Shown}
 use Rattle.bk_store.proofs.Starting.{start_stands, steady_start}
 use Rattle.bk_store.proofs.store.Store.start.Goals as goal
@@ -13,7 +14,7 @@ returns-clause-stands g c = λ tells log load.
       settings = c.args.settings;
       buffer = vec_capacity c.new-2.result;
     } in
-    start_stands v (g.D.Disk.told c.args.disk) c.args.loaded log c.args.settings.max_file c.new.ensures.told
+    start_stands v (g.D.Disk.shown c.args.disk).told c.args.loaded log c.args.settings.max_file (ap (λ (x : DiskShown). x.told) c.new.ensures.shown)
     c.new.ensures.catalog refl refl (c.new.ensures.consistent tells) c.requires.order (c.requires.files tells) load
 
 pub invariant_of-result : goal.invariant_of-result
