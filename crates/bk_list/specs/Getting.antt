@@ -33,7 +33,7 @@ pub record GoesTo (known : Bool) (b : Begun) (slot : ℕ) (v : StoreShown) (give
 -- why the value that was found isn't gathered
 abbrev pub IsUnsent : Unread → Bool → Bool → List ℕ → List ℕ → Outgoing → Outgoing → Type 0
 IsUnsent sink_failed known sink key value out new = IsTrue sink → Stops out (reply_text (Pair key value)) new
-IsUnsent (is_damaged file at kept found) known sink key value out new = (new ≡ out) × (kept ≢ found) × (known ≡ false)
+IsUnsent (is_damaged d) known sink key value out new = (new ≡ out) × (d.kept ≢ d.found) × (known ≡ false)
 IsUnsent why known sink key value out new = new ≡ out
 
 -- what became of a key, behind these calls
